@@ -1,0 +1,9 @@
+// What the first bytes of an operation say, once they are found right.
+use crate::kind::OperationKind;
+
+#[derive(Clone, Copy)]
+pub struct OperationHead {
+    pub kind: OperationKind,
+    pub process: u8,
+    pub count: u8,
+}

@@ -1,0 +1,35 @@
+// The five kinds of operations, with the numbers by which a run sheet names them.
+ghost use mathlib.Core.Path.{_≡_};
+ghost use Rattle.sheet.specs.Kinds.{kind-number, kind-of};
+
+#[derive(Clone, Copy)]
+pub enum OperationKind {
+    Read = 1,
+    Ll = 2,
+    Sc = 3,
+    Snapshot = 4,
+    Kcss = 5,
+}
+
+impl OperationKind {
+    // The number of this kind.
+    pub fn number(&self) -> u8
+        ensures { λ r. ⌜ r ≡ kind-number (now (self .entry)) ⌝ }
+    {
+        *self as u8
+    }
+
+    // The kind that has this number, if there is one.
+    pub fn from_number(number: u8) -> Option<OperationKind>
+        ensures { λ r. ⌜ r ≡ kind-of number ⌝ }
+    {
+        match number {
+            1 => Some(OperationKind::Read),
+            2 => Some(OperationKind::Ll),
+            3 => Some(OperationKind::Sc),
+            4 => Some(OperationKind::Snapshot),
+            5 => Some(OperationKind::Kcss),
+            _ => None,
+        }
+    }
+}

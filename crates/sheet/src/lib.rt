@@ -1,0 +1,19 @@
+// Run sheets: what an examination run is to do, as types and as bytes, with reading and writing.
+// Uses `value` and the standard library.
+mod fault;
+mod head;
+mod header;
+mod kind;
+mod parts;
+pub use fault::ReadError;
+pub use fault::ReadErrorFromAlloc;
+pub use fault::ReadErrorFromFault;
+pub use fault::ReadErrorFromRefused;
+pub use fault::SheetFault;
+pub use fault::SheetRefusal;
+pub use kind::OperationKind;
+pub use parts::Action;
+pub use parts::Operand;
+pub use parts::Operation;
+pub use parts::ScriptItem;
+pub use parts::Sheet;
