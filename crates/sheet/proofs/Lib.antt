@@ -1,0 +1,6 @@
+pub mod Numbers
+pub mod Answering
+pub mod Rows
+pub mod Exits
+pub mod Unused
+pub mod Heads

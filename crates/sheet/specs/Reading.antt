@@ -14,6 +14,7 @@ use Rattle.sheet.specs.declared.kind.OperationKind.the-variants.{Read, Ll, Sc,
 use Rattle.sheet.specs.declared.fault.SheetRefusal.the-variants.{WrongLength, WrongHeader, WrongOffset, WrongOperation, WrongCode, WrongScript}
 use Rattle.sheet.specs.declared.fault.SheetFault.{SheetFault}
 use Rattle.sheet.specs.declared.header.Header.{Header}
+use Rattle.sheet.specs.declared.header.RawHeader.{RawHeader}
 use Rattle.sheet.specs.declared.head.OperationHead.{OperationHead}
 use Rattle.sheet.specs.declared.parts.Operand.{Operand}
 use Rattle.sheet.specs.declared.parts.ScriptItem.{ScriptItem}
@@ -36,21 +37,30 @@ starts (Step p ∷ rest) = starts rest
 abbrev pub item-of : ℕ → Option ScriptItem
 item-of b = cond (ltb b 32) (Some (Step b)) (cond (eqb b 255) (Some Start) None)
 
+-- The first refusal of a header in a sheet of this length: 20 where the length is not the one it says; 21 for
+-- version, kind, L or P; 22 for an offset that is not where it must be. An offset that passes the total, or
+-- lies below the one before, is refused at its own byte.
+abbrev pub header-by : RawHeader → ℕ → ℕ → Result Header SheetFault
+header-by raw long number =
+  require (eqb (raw .total) long) (fault WrongLength long)
+  (require (eqb (raw .version) 1) (fault WrongHeader 0)
+  (require (eqb (raw .kind) number) (fault WrongHeader 1)
+  (require (within 1 256 (raw .locations)) (fault WrongHeader 2)
+  (require (within 1 32 (raw .processes)) (fault WrongHeader 4)
+  (require (eqb (raw .values) 24) (fault WrongOffset 8)
+  (require (eqb (raw .operations) (24 + 8 * raw .locations) && leb (raw .operations) long) (fault WrongOffset 12)
+  (require (eqb (raw .script + raw .items) long && leb (raw .operations) (raw .script)) (fault WrongOffset 16)
+  (Ok (record { locations = raw .locations; processes = raw .processes; items = raw .items; operations = raw .operations; script = raw .script })))))))))
+
 module _ (bytes : List ℕ) where
-  -- The header: 20 for a sheet that is shorter than its header or not as long as it says; 21 for version,
-  -- kind, L or P; 22 for an offset.
+  -- where the fields of a header stand
+  abbrev pub header-fields : RawHeader
+  header-fields = record { version = getD bytes 0 0; kind = getD bytes 1 0; locations = field bytes 2 2; processes = field bytes 4 2; items = field bytes 6 2;
+    values = field bytes 8 4; operations = field bytes 12 4; script = field bytes 16 4; total = field bytes 20 4 }
+
+  -- 20 for a sheet that is shorter than its header
   unfoldable pub header-answer : ℕ → Result Header SheetFault
-  header-answer number =
-    require (leb 24 (length bytes)) (fault WrongLength (length bytes))
-    (require (eqb (field bytes 20 4) (length bytes)) (fault WrongLength (length bytes))
-    (require (eqb (getD bytes 0 0) 1) (fault WrongHeader 0)
-    (require (eqb (getD bytes 1 0) number) (fault WrongHeader 1)
-    (require (within 1 256 (field bytes 2 2)) (fault WrongHeader 2)
-    (require (within 1 32 (field bytes 4 2)) (fault WrongHeader 4)
-    (require (eqb (field bytes 8 4) 24) (fault WrongOffset 8)
-    (require (eqb (field bytes 12 4) (24 + 8 * field bytes 2 2) && leb (field bytes 12 4) (length bytes)) (fault WrongOffset 12)
-    (require (eqb (field bytes 16 4 + field bytes 6 2) (length bytes) && leb (field bytes 12 4) (field bytes 16 4)) (fault WrongOffset 16)
-    (Ok (record { locations = field bytes 2 2; processes = field bytes 4 2; items = field bytes 6 2; operations = field bytes 12 4; script = field bytes 16 4 }))))))))))
+  header-answer number = require (leb 24 (length bytes)) (fault WrongLength (length bytes)) (header-by header-fields (length bytes) number)
 
   -- whether the expected codes of so many operands, from `at` on, are all zero
   unfoldable pub unused : ℕ → ℕ → Bool
@@ -79,10 +89,13 @@ module _ (bytes : List ℕ) where
   unfoldable pub head-answer : ℕ → ℕ → Result OperationHead SheetFault
   head-answer at end = require (leb (at + 12) end) (fault WrongOperation at) (head-by at end (kind-of (getD bytes at 0)))
 
-  -- so many script bytes from `at` on: 25 for the first that is neither below 32 nor 255
+  -- a script byte, 25 where it is neither below 32 nor 255, and so many of them from `at` on
+  abbrev pub item-answer : ℕ → Result ScriptItem SheetFault
+  item-answer at = okOr (item-of (getD bytes at 0)) (fault WrongScript at)
+
   unfoldable pub script-answer : ℕ → ℕ → Result (List ScriptItem) SheetFault
   script-answer at zero = Ok []
-  script-answer at (suc n) = followed (okOr (item-of (getD bytes at 0)) (fault WrongScript at)) (script-answer (at + 1) n)
+  script-answer at (suc n) = followed (item-answer at) (script-answer (at + 1) n)
 
 module _ {V : Type 0} (decode : ℕ → Option V) (bytes : List ℕ) where
   -- the value whose code stands at `at`: 24 where it gives none

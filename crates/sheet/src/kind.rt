@@ -1,6 +1,6 @@
 // The five kinds of operations, with the numbers by which a run sheet names them.
 ghost use mathlib.Core.Path.{_≡_};
-ghost use Rattle.sheet.specs.Kinds.{kind-number, kind-of};
+ghost use Rattle.sheet.specs.Kinds.{kind-number, kind-of, counted, takes-new, takes-expected};
 
 #[derive(Clone, Copy)]
 pub enum OperationKind {
@@ -30,6 +30,36 @@ impl OperationKind {
             4 => Some(OperationKind::Snapshot),
             5 => Some(OperationKind::Kcss),
             _ => None,
+        }
+    }
+
+    // Whether an operation of this kind may name so many locations.
+    pub fn takes(&self, count: usize) -> bool
+        ensures { λ r. ⌜ r ≡ counted (now (self .entry)) count ⌝ }
+    {
+        match self {
+            OperationKind::Read | OperationKind::Ll | OperationKind::Sc => count == 1,
+            OperationKind::Snapshot | OperationKind::Kcss => count >= 1 && count <= 16,
+        }
+    }
+
+    // Whether an operation of this kind is given a new value.
+    pub fn takes_new(&self) -> bool
+        ensures { λ r. ⌜ r ≡ takes-new (now (self .entry)) ⌝ }
+    {
+        match self {
+            OperationKind::Sc | OperationKind::Kcss => true,
+            OperationKind::Read | OperationKind::Ll | OperationKind::Snapshot => false,
+        }
+    }
+
+    // Whether an operation of this kind is given expected values.
+    pub fn takes_expected(&self) -> bool
+        ensures { λ r. ⌜ r ≡ takes-expected (now (self .entry)) ⌝ }
+    {
+        match self {
+            OperationKind::Kcss => true,
+            OperationKind::Read | OperationKind::Ll | OperationKind::Sc | OperationKind::Snapshot => false,
         }
     }
 }

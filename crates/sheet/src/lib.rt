@@ -1,10 +1,14 @@
 // Run sheets: what an examination run is to do, as types and as bytes, with reading and writing.
 // Uses `value` and the standard library.
+mod bytes;
 mod fault;
 mod head;
 mod header;
 mod kind;
 mod parts;
+mod read_header;
+mod read_lists;
+mod read_operation;
 pub use fault::ReadError;
 pub use fault::ReadErrorFromAlloc;
 pub use fault::ReadErrorFromFault;

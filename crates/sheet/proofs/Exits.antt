@@ -1,0 +1,23 @@
+-- What a reading returns where a part of it was refused, or found no memory.
+use mathlib.Core.Path.{_≡_, sym, ap, subst, _∙_}
+use Rattle.std.specs.Results.{ErrBy}
+use Rattle.std.specs.declared.result.Result.{Result}
+use Rattle.std.specs.declared.result.Result.the-variants.{Ok, Err}
+use Rattle.std.proofs.shelf.Results.{err-from-errBy}
+use Rattle.sheet.specs.declared.fault.SheetFault.{SheetFault}
+use Rattle.sheet.specs.declared.fault.ReadError.{ReadError}
+use Rattle.sheet.specs.declared.fault.ReadError.the-variants.{Fault, NoMemory}
+use Rattle.sheet.specs.Faults.{Reads}
+
+module _ {X Y : Type 0} (view : X → Y) (answer : Result Y SheetFault) (r : Result X ReadError) where
+  -- by the `?` after a part that is refused on its own
+  pub exit-fault : (f : SheetFault) → ErrBy r (λ y. y ≡ Fault f) → answer ≡ Err f → Reads view r answer
+  exit-fault f e h =
+    let p = err-from-errBy r e in
+    subst (λ s. Reads view s answer) (sym (p .1 ∙ ap Err (p .2))) h
+
+  -- by the `?` after an allocation
+  pub exit-no-memory : ErrBy r (λ y. y ≡ NoMemory) → Reads view r answer
+  exit-no-memory e =
+    let p = err-from-errBy r e in
+    subst (λ s. Reads view s answer) (sym (p .1 ∙ ap Err (p .2))) tt
