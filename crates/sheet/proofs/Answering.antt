@@ -14,16 +14,21 @@ use Rattle.sheet.specs.Faults.{require, followed, in-front}
 pub required : {X : Type 0} {test : Bool} (f : SheetFault) (next : Result X SheetFault) → test ≡ true → require test f next ≡ next
 required f next e = ap (λ b. require b f next) e
 
+-- a test that was passed on the way to an answer
+pub require-ok : {X : Type 0} (test : Bool) (f : SheetFault) (next : Result X SheetFault) (x : X) → require test f next ≡ Ok x → (test ≡ true) × (next ≡ Ok x)
+require-ok true f next x e = (refl, e)
+require-ok false f next x e = absurd (let z : _≡_ {A = ℕ} 0 1 = cc in omega arith)
+
 -- items that were read, in front of what is still to come
 abbrev pub ahead : {X : Type 0} → List X → Result (List X) SheetFault → Result (List X) SheetFault
 ahead done (Ok rest) = Ok (done ++ rest)
 ahead done (Err f) = Err f
 
-ahead-none : {X : Type 0} (r : Result (List X) SheetFault) → ahead [] r ≡ r
+pub ahead-none : {X : Type 0} (r : Result (List X) SheetFault) → ahead [] r ≡ r
 ahead-none (Ok rest) = refl
 ahead-none (Err f) = refl
 
-ahead-more : {X : Type 0} (done : List X) (x : X) (r : Result (List X) SheetFault) → ahead (done ++ x ∷ []) r ≡ ahead done (in-front x r)
+pub ahead-more : {X : Type 0} (done : List X) (x : X) (r : Result (List X) SheetFault) → ahead (done ++ x ∷ []) r ≡ ahead done (in-front x r)
 ahead-more done x (Ok rest) = ap Ok (append-assoc done (x ∷ []) rest)
 ahead-more done x (Err f) = refl
 

@@ -4,3 +4,5 @@ pub mod Rows
 pub mod Exits
 pub mod Unused
 pub mod Heads
+pub mod Gathered
+pub mod Whole

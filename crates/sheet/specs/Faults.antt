@@ -43,7 +43,10 @@ followed (Err f) rest = Err f
 
 -- An answer of the code is the one that the rules give, with what it holds seen through `view`; only want
 -- of memory may come in its place.
+abbrev pub Refuses : {Y : Type 0} → ReadError → Result Y SheetFault → Type 0
+Refuses (Fault f) answer = answer ≡ Err f
+Refuses NoMemory answer = Unit {0}
+
 abbrev pub Reads : {X Y : Type 0} → (X → Y) → Result X ReadError → Result Y SheetFault → Type 0
 Reads view (Ok x) answer = answer ≡ Ok (view x)
-Reads view (Err (Fault f)) answer = answer ≡ Err f
-Reads view (Err NoMemory) answer = Unit {0}
+Reads view (Err e) answer = Refuses e answer

@@ -1,7 +1,7 @@
 -- What reading a run sheet answers: the first refusal, in the order of the rules, or the parts.
 use mathlib.Core.Bool.{Bool, true, false, cond, _&&_, _||_}
 use mathlib.Core.List.{List, [], _∷_}
-use Prim.Native.Nat.{ℕ, zero, suc, _+_, _*_}
+use Prim.Native.Nat.{ℕ, zero, suc, _+_, _*_, _≤_}
 use lib.Dec.{eqb, leb, ltb}
 use lib.ListN.{length, getD}
 use Rattle.std.specs.Options.{okOr}
@@ -36,6 +36,12 @@ starts (Step p ∷ rest) = starts rest
 
 abbrev pub item-of : ℕ → Option ScriptItem
 item-of b = cond (ltb b 32) (Some (Step b)) (cond (eqb b 255) (Some Start) None)
+
+-- where a header that was found right puts the parts of a sheet of this length
+pub record Placed (long : ℕ) (h : Header) : Type 0 where
+  pub values : 24 + 8 * h .locations ≤ long
+  pub before : h .operations ≤ h .script
+  pub script-end : h .script + h .items ≤ long
 
 -- The first refusal of a header in a sheet of this length: 20 where the length is not the one it says; 21 for
 -- version, kind, L or P; 22 for an offset that is not where it must be. An offset that passes the total, or

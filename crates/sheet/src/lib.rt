@@ -6,6 +6,7 @@ mod head;
 mod header;
 mod kind;
 mod parts;
+mod read;
 mod read_header;
 mod read_lists;
 mod read_operation;

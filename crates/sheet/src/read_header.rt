@@ -1,10 +1,10 @@
 // Reading a sheet's header: its length, version, kind, counts and offsets.
 ghost use mathlib.Core.Path.{_≡_};
-ghost use Prim.Native.Nat.{_+_, _≤_};
+ghost use Prim.Native.Nat.{_<_, _≤_};
 ghost use lib.ListN.{length};
 ghost use Rattle.std.specs.Options.{Cases as BySome};
-ghost use Rattle.sheet.specs.Reading.{header-answer, header-by, header-fields};
-ghost use Prim.Native.Nat.{_<_};
+ghost use Rattle.std.specs.Vec.{made};
+ghost use Rattle.sheet.specs.Reading.{Placed, header-answer, header-by, header-fields};
 use crate::bytes::number_at;
 use crate::fault::SheetFault;
 use crate::fault::SheetRefusal;
@@ -36,7 +36,8 @@ fn raw_header(bytes: &[u8]) -> Option<RawHeader>
 
 // The header, if it is right for a sheet of this length and kind.
 fn judge_header(raw: &RawHeader, length: usize, kind_number: u8) -> Result<Header, SheetFault>
-    ensures { λ r. ⌜ r ≡ header-by (now (raw .entry)) length «kind_number» ⌝ }
+    ensures answer { λ r. ⌜ r ≡ header-by (now (raw .entry)) length «kind_number» ⌝ }
+    ensures placed { λ r. ⌜ made r (λ h. Placed length h) ⌝ }
 {
     let operations = raw.operations as usize;
     let script = raw.script as usize;
@@ -69,7 +70,8 @@ fn judge_header(raw: &RawHeader, length: usize, kind_number: u8) -> Result<Heade
 
 // What the header says, or the refusal with which it is met, for a sheet of values of one kind.
 pub fn read_header(bytes: &[u8], kind_number: u8) -> Result<Header, SheetFault>
-    ensures { λ r. ⌜ r ≡ header-answer (now (bytes .entry)) «kind_number» ⌝ }
+    ensures answer { λ r. ⌜ r ≡ header-answer (now (bytes .entry)) «kind_number» ⌝ }
+    ensures placed { λ r. ⌜ made r (λ h. Placed (length (now (bytes .entry))) h) ⌝ }
 {
     match raw_header(bytes) {
         Some(raw) => judge_header(&raw, bytes.len(), kind_number),

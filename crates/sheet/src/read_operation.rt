@@ -1,10 +1,10 @@
 // Reading one operation: its head, and then what it is to do.
 ghost use mathlib.Core.Path.{_≡_};
 ghost use Prim.Native.Nat.{_+_, _*_, _≤_};
-ghost use lib.ListN.{length};
-ghost use Rattle.std.specs.Orderings.{Decides};
+ghost use lib.ListN.{length, getD};
+ghost use Rattle.std.specs.Vec.{made};
 ghost use Rattle.sheet.specs.Faults.{Reads};
-ghost use Rattle.sheet.specs.Kinds.{counted, takes-new, takes-expected};
+
 ghost use Rattle.sheet.specs.Format.{size-by};
 ghost use Rattle.sheet.specs.Parts.{act-of, op-of};
 ghost use Rattle.sheet.specs.Reading.{unused, head-fits, head-answer, action-by, operation-answer};
@@ -94,4 +94,21 @@ fn read_action<V: ValueKind>(heap: Global, bytes: &[u8], at: usize, head: Operat
             Ok(Action::Kcss { new, operands })
         }
     }
+}
+
+// The operation that starts at `at`, and where the next one starts.
+pub fn read_operation<V: ValueKind>(
+    heap: Global,
+    bytes: &[u8],
+    at: usize,
+    end: usize,
+) -> Result<(Operation<V>, usize), ReadError>
+    requires before { ⌜ at ≤ end ⌝ }
+    requires inside { ⌜ end ≤ length (now bytes) ⌝ }
+    ensures answer { λ r. ⌜ Reads (λ read. op-of (read .0)) r (operation-answer decoded (now (bytes .entry)) end at) ⌝ }
+    ensures next { λ r. ⌜ made r (λ read. (read .1 ≡ at + size-by (getD (now (bytes .entry)) (at + 2) 0)) × (read .1 ≤ end)) ⌝ }
+{
+    let head = read_head(bytes, at, end)?;
+    let action = read_action(heap, bytes, at, head)?;
+    Ok((Operation { process: head.process, action }, at + 12 + 10 * head.count as usize))
 }

@@ -15,8 +15,8 @@ unfolding header-answer
 returns-in-Some c =
     let h = c .in-Some .ensures tt in
     let long : leb 24 (length (c .args .bytes .now)) ≡ true = grind (arith, tells) in
-    c .judge-header .ensures ∙ ap (λ raw. header-by raw (length (c .args .bytes .now)) (c .args .kind-number)) (h .1) ∙ sym (required (fault WrongLength (length (c .args .bytes .now))) _ long)
+    record { answer = c .judge-header .ensures .answer ∙ ap (λ raw. header-by raw (length (c .args .bytes .now)) (c .args .kind-number)) (h .1) ∙ sym (required (fault WrongLength (length (c .args .bytes .now))) _ long); placed = c .judge-header .ensures .placed }
 
 pub returns-in-None : need.returns-in-None
 unfolding header-answer
-returns-in-None c = let h = c .in-None .ensures tt in grind (arith, tells)
+returns-in-None c = let h = c .in-None .ensures tt in record { answer = grind (arith, tells); placed = tt }
