@@ -1,0 +1,5 @@
+use Rattle.sheet.proofs.ReadBack.{values-read}
+use Rattle.sheet.proofs.trips.round_trips.Needs as need
+
+pub returns : need.returns
+returns g c = ?
