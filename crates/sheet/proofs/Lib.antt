@@ -2,3 +2,4 @@ pub mod Fields
 pub mod Steps
 pub mod Sizes
 pub mod ReadBack
+pub mod ReadOperations
