@@ -3,3 +3,5 @@ pub mod Steps
 pub mod Sizes
 pub mod ReadBack
 pub mod ReadOperations
+pub mod Accepted
+pub mod ReadSheet

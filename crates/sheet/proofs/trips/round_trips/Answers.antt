@@ -1,4 +1,4 @@
-use Rattle.sheet.proofs.ReadOperations.{operations-read}
+use Rattle.sheet.proofs.ReadSheet.{write-then-read}
 use Rattle.sheet.proofs.trips.round_trips.Needs as need
 
 pub returns : need.returns
