@@ -5,3 +5,4 @@ pub mod ReadBack
 pub mod ReadOperations
 pub mod Accepted
 pub mod ReadSheet
+pub mod WriteBack
