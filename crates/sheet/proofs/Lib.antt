@@ -6,3 +6,4 @@ pub mod ReadOperations
 pub mod Accepted
 pub mod ReadSheet
 pub mod WriteBack
+pub mod WriteOperations
