@@ -7,3 +7,4 @@ pub mod Accepted
 pub mod ReadSheet
 pub mod WriteBack
 pub mod WriteOperations
+pub mod WriteSheet
