@@ -43,28 +43,39 @@ module _ {V : Type 0} (p : Parts V) where
     pub script : script-end (script-at p) (p .script) ≡ Ok (total p)
     pub begins : starts (p .script) ≡ length (p .operations)
 
+  laid-by : (o s : ℕ) → within 1 256 (length (p .initial)) ≡ true → within 1 32 (p .processes) ≡ true → leb (length (p .script)) 65535 ≡ true
+    → operations-end (operations-at p) 4096 (p .operations) ≡ Ok o → script-end o (p .script) ≡ Ok s → eqb (starts (p .script)) (length (p .operations)) ≡ true → Laid × (s ≡ total p)
+  laid-by o s l q n f g m =
+      let at : o ≡ script-at p = ends (operations-at p) 4096 o (p .operations) f .0 in
+      let end : s ≡ total p = script-ends o s (p .script) g ∙ ap (λ k. k + length (p .script)) at in
+      (record {
+        locations = within-true 1 256 (length (p .initial)) l;
+        processes = within-true 1 32 (p .processes) q;
+        items = leb-true (length (p .script)) 65535 n;
+        operations = f ∙ ap Ok at;
+        script = ap (λ k. script-end k (p .script)) (sym at) ∙ g ∙ ap Ok end;
+        begins = eqb-true (starts (p .script)) (length (p .operations)) m
+      }, end)
+
+  laid-out : (t : ℕ) → layout-answer p ≡ Ok t → Laid × (t ≡ total p)
+  unfolding layout-answer
+  laid-out t e =
+      let a = passed (within 1 256 (length (p .initial))) _ _ t e in
+      let b = passed (within 1 32 (p .processes)) _ _ t (a .1) in
+      let c = passed (leb (length (p .script)) 65535) _ _ t (b .1) in
+      let o = begun (operations-end (operations-at p) 4096 (p .operations)) _ t (c .1) in
+      let s = begun (script-end (o .value) (p .script)) _ t (o .rest-is) in
+      let d = passed (eqb (starts (p .script)) (length (p .operations))) _ (Ok (s .value)) t (s .rest-is) in
+      let l = laid-by (o .value) (s .value) (a .0) (b .0) (c .0) (o .first-is) (s .first-is) (d .0) in
+      (l .0, omega (arith, ok-same (s .value) t (d .1), l .1))
+
   pub laid : (n room : ℕ) → write-answer p room ≡ Ok n → Laid × (n ≡ total p)
-  unfolding write-answer layout-answer
+  unfolding write-answer
   laid n room e =
       let whole = begun (layout-answer p) _ n e in
       let last = passed (leb (whole .value) room) _ (Ok (whole .value)) n (whole .rest-is) in
-      let a = passed (within 1 256 (length (p .initial))) _ _ (whole .value) (whole .first-is) in
-      let b = passed (within 1 32 (p .processes)) _ _ (whole .value) (a .1) in
-      let c = passed (leb (length (p .script)) 65535) _ _ (whole .value) (b .1) in
-      let o = begun (operations-end (operations-at p) 4096 (p .operations)) _ (whole .value) (c .1) in
-      let s = begun (script-end (o .value) (p .script)) _ (whole .value) (o .rest-is) in
-      let d = passed (eqb (starts (p .script)) (length (p .operations))) _ (Ok (s .value)) (whole .value) (s .rest-is) in
-      let at : o .value ≡ script-at p = ends (operations-at p) 4096 (o .value) (p .operations) (o .first-is) .0 in
-      let end : s .value ≡ total p = script-ends (o .value) (s .value) (p .script) (s .first-is) ∙ ap (λ k. k + length (p .script)) at in
-      let same = ok-same (s .value) (whole .value) (d .1) in
-      (record {
-        locations = within-true 1 256 (length (p .initial)) (a .0);
-        processes = within-true 1 32 (p .processes) (b .0);
-        items = leb-true (length (p .script)) 65535 (c .0);
-        operations = o .first-is ∙ ap Ok at;
-        script = ap (λ k. script-end k (p .script)) (sym at) ∙ s .first-is ∙ ap Ok end;
-        begins = eqb-true (starts (p .script)) (length (p .operations)) (d .0)
-      }, sym (ok-same (whole .value) n (last .1)) ∙ sym same ∙ end)
+      let l = laid-out (whole .value) (whole .first-is) in
+      (l .0, omega (arith, ok-same (whole .value) n (last .1), l .1))
 
   pub accepted : (room : ℕ) → Laid → total p ≤ room → write-answer p room ≡ Ok (total p)
   unfolding write-answer layout-answer

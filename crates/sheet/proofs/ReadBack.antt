@@ -19,7 +19,8 @@ use Rattle.sheet.specs.declared.parts.Operand.{Operand}
 use Rattle.sheet.specs.declared.parts.ScriptItem.{ScriptItem}
 use Rattle.sheet.specs.declared.parts.ScriptItem.the-variants.{Start, Step}
 use Rattle.sheet.specs.Bytes.{field, bytes-of}
-use Rattle.sheet.specs.Faults.{fault}
+use Rattle.sheet.specs.declared.fault.SheetFault.{SheetFault}
+use Rattle.sheet.specs.Faults.{fault, followed}
 use Rattle.sheet.specs.Parts.{Locations, Operands}
 use Rattle.sheet.specs.Format.{operand-bytes, item-byte, location-bytes, expected-bytes, value-bytes}
 use Rattle.sheet.specs.Reading.{item-of, unused, locations-from, script-answer, value-answer, values-answer, operand-answer, operands-answer}
@@ -42,6 +43,16 @@ module _ (bytes : List ℕ) where
       gather (okOr (item-of (getD bytes at 0)) (fault WrongScript at)) (script-answer bytes (at + 1) (length items)) i items
         (ap (λ x. okOr (item-of x) (fault WrongScript at)) b ∙ ap (λ x. okOr x (fault WrongScript at)) (item-read i (p .0)))
         (script-read (at + 1) end items rest (p .1) (drop-past bytes at 1 (item-byte i ∷ (map item-byte items ++ rest)) e))
+
+  -- items of one width, one after another
+  module _ {X : Type 0} (w : ℕ) (f : X → List ℕ) (Good : List X → Type 0) (one : ℕ → Result X SheetFault) (many : ℕ → ℕ → Result (List X) SheetFault)
+      (none : (at : ℕ) → many at 0 ≡ Ok []) (more : (at n : ℕ) → many at (suc n) ≡ followed (one at) (many (at + w) n))
+      (each : (at : ℕ) (x : X) (xs : List X) (rest : List ℕ) → Good (x ∷ xs) → drop at bytes ≡ f x ++ rest → (one at ≡ Ok x) × (drop (at + w) bytes ≡ rest) × Good xs) where
+    items-read : (at : ℕ) (xs : List X) (rest : List ℕ) → Good xs → drop at bytes ≡ joined f xs ++ rest → many at (length xs) ≡ Ok xs
+    items-read at [] rest g e = none at
+    items-read at (x ∷ xs) rest g e =
+        let a = each at x xs (joined f xs ++ rest) g (e ∙ append-assoc (f x) (joined f xs) rest) in
+        more at (length xs) ∙ gather (one at) (many (at + w) (length xs)) x xs (a .0) (items-read (at + w) xs rest (a .2) (a .1))
 
   -- one operand
   operand-read : (at a c : ℕ) (rest : List ℕ) → a < 65536 → c < 2 ^ 64 → drop at bytes ≡ operand-bytes a c ++ rest → (field bytes at 2 ≡ a) × (field bytes (at + 2) 8 ≡ c) × (drop (at + 10) bytes ≡ rest)
@@ -73,21 +84,16 @@ module _ (bytes : List ℕ) where
 
       pub values-read : (at : ℕ) (vs : List V) (rest : List ℕ) → drop at bytes ≡ joined (value-bytes code) vs ++ rest → values-answer decode bytes at (length vs) ≡ Ok vs
       unfolding values-answer
-      values-read at [] rest e = refl
-      values-read at (v ∷ vs) rest e =
-          let more = joined (value-bytes code) vs in
-          let p = peel bytes at 8 (value-bytes code v) more rest (bytes-length 8 (code v)) e in
-          gather (value-answer decode bytes at) (values-answer decode bytes (at + 8) (length vs)) v vs
-            (value-by at v (field-read bytes at 8 (code v) (more ++ rest) (small v) (p .0)))
-            (values-read (at + 8) vs rest (p .1))
+      values-read at vs rest e = items-read 8 (value-bytes code) (λ _. Unit {0}) (value-answer decode bytes) (values-answer decode bytes) (λ _. refl) (λ _ _. refl)
+          (λ k v _ r _ d. (value-by k v (field-read bytes k 8 (code v) r (small v) d), next bytes k 8 (value-bytes code v) r (bytes-length 8 (code v)) d, tt)) at vs rest tt e
+
+      expected-read : (at : ℕ) (o : Operand V) (os : List (Operand V)) (rest : List ℕ) → Operands (o ∷ os) → drop at bytes ≡ expected-bytes code o ++ rest
+        → (operand-answer decode bytes at ≡ Ok o) × (drop (at + 10) bytes ≡ rest) × Operands os
+      expected-read at o os rest h e =
+          let one = operand-read at (o .location) (code (o .expected)) rest (h .0) (small (o .expected)) e in
+          (go-on (value-answer decode bytes (at + 2)) (λ v. Ok (record { location = field bytes at 2; expected = v })) (o .expected) (Ok o)
+            (value-by (at + 2) (o .expected) (one .1)) (λ i. Ok (record { location = one .0 i; expected = o .expected })), one .2, h .1)
 
       pub operands-read : (at : ℕ) (os : List (Operand V)) (rest : List ℕ) → Operands os → drop at bytes ≡ joined (expected-bytes code) os ++ rest → operands-answer decode bytes at (length os) ≡ Ok os
       unfolding operands-answer
-      operands-read at [] rest h e = refl
-      operands-read at (o ∷ os) rest h e =
-          let more = joined (expected-bytes code) os in
-          let one = operand-read at (o .location) (code (o .expected)) (more ++ rest) (h .0) (small (o .expected)) (e ∙ append-assoc (expected-bytes code o) more rest) in
-          gather (operand-answer decode bytes at) (operands-answer decode bytes (at + 10) (length os)) o os
-            (go-on (value-answer decode bytes (at + 2)) (λ v. Ok (record { location = field bytes at 2; expected = v })) (o .expected) (Ok o)
-              (value-by (at + 2) (o .expected) (one .1)) (λ i. Ok (record { location = one .0 i; expected = o .expected })))
-            (operands-read (at + 10) os rest (h .1) (one .2))
+      operands-read = items-read 10 (expected-bytes code) Operands (operand-answer decode bytes) (operands-answer decode bytes) (λ _. refl) (λ _ _. refl) expected-read

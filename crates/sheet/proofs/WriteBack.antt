@@ -3,7 +3,7 @@ use mathlib.Core.Path.{_≡_, refl, ap, sym, subst, _∙_}
 use mathlib.Core.Bool.{Bool, true, false, cond, _&&_}
 use mathlib.Core.List.{List, [], _∷_, _++_, map}
 use Prim.Native.Nat.{ℕ, zero, suc, _+_, _*_, _≤_, _<_}
-use native.Mathlib.Nat.{add-zero}
+use native.Mathlib.Nat.{add-zero, mul-zero, mul-suc}
 use native.Mathlib.Omega.{arith}
 use lib.Dec.{eqb, leb, ltb}
 use lib.ListN.{length, getD, drop}
@@ -20,7 +20,8 @@ use Rattle.sheet.specs.declared.parts.Operand.{Operand}
 use Rattle.sheet.specs.declared.parts.ScriptItem.{ScriptItem}
 use Rattle.sheet.specs.declared.parts.ScriptItem.the-variants.{Start, Step}
 use Rattle.sheet.specs.Bytes.{field, bytes-of, AllBytes}
-use Rattle.sheet.specs.Faults.{fault}
+use Rattle.sheet.specs.declared.fault.SheetFault.{SheetFault}
+use Rattle.sheet.specs.Faults.{fault, followed}
 use Rattle.sheet.specs.Format.{operand-bytes, item-byte, location-bytes, expected-bytes, value-bytes}
 use Rattle.sheet.specs.Reading.{item-of, unused, locations-from, script-answer, value-answer, values-answer, operand-answer, operands-answer}
 use Rattle.sheet.specs.Writing.{writable, script-end}
@@ -67,6 +68,24 @@ module _ (bytes : List ℕ) where
         laid = pass (writable (s .first)) (fault WrongScript at) (script-end (at + 1) (s .others)) _ (i .1) (ih .laid ∙ ap Ok place)
       })
 
+  -- items of one width that were read one after another
+  module _ {X : Type 0} (w : ℕ) (f : X → List ℕ) (one : ℕ → Result X SheetFault) (many : ℕ → ℕ → Result (List X) SheetFault)
+      (none : (at : ℕ) → many at 0 ≡ Ok []) (more : (at n : ℕ) → many at (suc n) ≡ followed (one at) (many (at + w) n))
+      (back : (at : ℕ) (x : X) → at + w ≤ length bytes → one at ≡ Ok x → drop at bytes ≡ f x ++ drop (at + w) bytes) where
+    Filled : ℕ → ℕ → List X → Type 0
+    Filled at n xs = (length xs ≡ n) × (drop at bytes ≡ joined f xs ++ drop (at + w * n) bytes)
+
+    items-back : (at n : ℕ) (xs : List X) → at + w * n ≤ length bytes → many at n ≡ Ok xs → (length xs ≡ n) × (drop at bytes ≡ joined f xs ++ drop (at + w * n) bytes)
+    unfolding Filled
+    items-back at zero xs h e = subst (Filled at 0) (ok-same [] xs (sym (none at) ∙ e)) (refl, nothing at (at + w * 0) (omega (arith, mul-zero w)))
+    items-back at (suc n) xs h e =
+        let k : w * suc n ≡ w * n + w = mul-suc w n in
+        let s = split (one at) (many (at + w) n) xs (sym (more at n) ∙ e) in
+        let ih = items-back (at + w) n (s .others) (omega arith) (s .others-are) in
+        let place : at + w + w * n ≡ at + w * suc n = omega arith in
+        subst (Filled at (suc n)) (sym (s .whole)) (ap suc (ih .0), join at (at + w) (at + w * suc n) (f (s .first)) (joined f (s .others)) (back at (s .first) (omega arith) (s .first-is))
+          (up-to (at + w) (at + w + w * n) (at + w * suc n) (joined f (s .others)) place (ih .1)))
+
   module _ (all : AllBytes bytes) where
     operand-back : (at : ℕ) → at + 10 ≤ length bytes → drop at bytes ≡ operand-bytes (field bytes at 2) (field bytes (at + 2) 8) ++ drop (at + 10) bytes
     operand-back at h =
@@ -100,17 +119,8 @@ module _ (bytes : List ℕ) where
 
         pub values-back : (at n : ℕ) (vs : List V) → at + 8 * n ≤ length bytes → values-answer decode bytes at n ≡ Ok vs → (length vs ≡ n) × (drop at bytes ≡ joined (value-bytes code) vs ++ drop (at + 8 * n) bytes)
         unfolding values-answer
-        values-back at zero vs h e =
-            subst (λ x. (length x ≡ 0) × (drop at bytes ≡ joined (value-bytes code) x ++ drop (at + 8 * 0) bytes)) (ok-same [] vs e) (refl, nothing at (at + 8 * 0) (omega arith))
-        values-back at (suc n) vs h e =
-            let s = split (value-answer decode bytes at) (values-answer decode bytes (at + 8) n) vs e in
-            let ih = values-back (at + 8) n (s .others) (omega arith) (s .others-are) in
-            let more = joined (value-bytes code) (s .others) in
-            let place : at + 8 + 8 * n ≡ at + 8 * suc n = omega arith in
-            subst (λ x. (length x ≡ suc n) × (drop at bytes ≡ joined (value-bytes code) x ++ drop (at + 8 * suc n) bytes)) (sym (s .whole))
-              (ap suc (ih .0), join at (at + 8) (at + 8 * suc n) (value-bytes code (s .first)) more
-                (field-back bytes at 8 all (omega arith) ∙ ap (λ c. bytes-of 8 c ++ drop (at + 8) bytes) (value-code at (s .first) (s .first-is)))
-                (up-to (at + 8) (at + 8 + 8 * n) (at + 8 * suc n) more place (ih .1)))
+        values-back = items-back 8 (value-bytes code) (value-answer decode bytes) (values-answer decode bytes) (λ at. refl) (λ at n. refl)
+            (λ at v h e. field-back bytes at 8 all h ∙ ap (λ c. bytes-of 8 c ++ drop (at + 8) bytes) (value-code at v e))
 
         expected-back : (at : ℕ) (o : Operand V) → at + 10 ≤ length bytes → operand-answer decode bytes at ≡ Ok o → drop at bytes ≡ expected-bytes code o ++ drop (at + 10) bytes
         expected-back at o h e =
@@ -120,13 +130,4 @@ module _ (bytes : List ℕ) where
 
         pub operands-back : (at n : ℕ) (os : List (Operand V)) → at + 10 * n ≤ length bytes → operands-answer decode bytes at n ≡ Ok os → (length os ≡ n) × (drop at bytes ≡ joined (expected-bytes code) os ++ drop (at + 10 * n) bytes)
         unfolding operands-answer
-        operands-back at zero os h e =
-            subst (λ x. (length x ≡ 0) × (drop at bytes ≡ joined (expected-bytes code) x ++ drop (at + 10 * 0) bytes)) (ok-same [] os e) (refl, nothing at (at + 10 * 0) (omega arith))
-        operands-back at (suc n) os h e =
-            let s = split (operand-answer decode bytes at) (operands-answer decode bytes (at + 10) n) os e in
-            let ih = operands-back (at + 10) n (s .others) (omega arith) (s .others-are) in
-            let more = joined (expected-bytes code) (s .others) in
-            let place : at + 10 + 10 * n ≡ at + 10 * suc n = omega arith in
-            subst (λ x. (length x ≡ suc n) × (drop at bytes ≡ joined (expected-bytes code) x ++ drop (at + 10 * suc n) bytes)) (sym (s .whole))
-              (ap suc (ih .0), join at (at + 10) (at + 10 * suc n) (expected-bytes code (s .first)) more (expected-back at (s .first) (omega arith) (s .first-is))
-                (up-to (at + 10) (at + 10 + 10 * n) (at + 10 * suc n) more place (ih .1)))
+        operands-back = items-back 10 (expected-bytes code) (operand-answer decode bytes) (operands-answer decode bytes) (λ at. refl) (λ at n. refl) expected-back
