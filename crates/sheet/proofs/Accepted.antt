@@ -1,22 +1,21 @@
 -- What an accepted layout says of the parts.
-use mathlib.Core.Path.{_≡_, refl, ap, sym, subst, _∙_}
-use mathlib.Core.Bool.{Bool, true, false, cond}
+use mathlib.Core.Path.{_≡_, refl, ap, sym, _∙_}
+use mathlib.Core.Bool.{true}
 use mathlib.Core.List.{List, [], _∷_}
-use Prim.Native.Nat.{ℕ, _+_, _*_, _≤_, _<_}
+use Prim.Native.Nat.{ℕ, _+_, _≤_}
 use native.Mathlib.Omega.{arith}
 use lib.Dec.{eqb, leb}
 use lib.ListN.{length}
-use Rattle.std.specs.declared.result.Result.{Result}
-use Rattle.std.specs.declared.result.Result.the-variants.{Ok, Err}
+use Rattle.std.specs.declared.result.Result.the-variants.{Ok}
 use Rattle.std.proofs.shelf.Tests.{and-parts, and-from, leb-true, le-leb, eqb-true, eq-eqb}
-use Rattle.sheet.specs.declared.fault.SheetRefusal.the-variants.{WrongHeader, WrongScript, ShortOutput}
+use Rattle.sheet.specs.declared.fault.SheetRefusal.the-variants.{WrongScript}
 use Rattle.sheet.specs.declared.parts.ScriptItem.{ScriptItem}
-use Rattle.sheet.specs.Faults.{fault, require}
-use Rattle.sheet.specs.Parts.{Op, Parts}
+use Rattle.sheet.specs.Faults.{fault}
+use Rattle.sheet.specs.Parts.{Parts}
 use Rattle.sheet.specs.Format.{operations-at, script-at, total}
 use Rattle.sheet.specs.Reading.{within, starts}
 use Rattle.sheet.specs.Writing.{writable, operations-end, script-end, layout-answer, write-answer}
-use Rattle.sheet.proofs.Steps.{ok-same, pass, passed, go-on, Begun, begun}
+use Rattle.sheet.proofs.Steps.{ok-same, pass, passed, go-on, begun}
 use Rattle.sheet.proofs.ReadOperations.{ends}
 
 pub within-true : (low high n : ℕ) → within low high n ≡ true → (low ≤ n) × (n ≤ high)

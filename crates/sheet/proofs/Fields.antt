@@ -5,7 +5,7 @@ use Prim.Native.Nat.{ℕ, zero, suc, _+_, _*_, _/_, _%_, _^_, _<_, _≤_}
 use native.Mathlib.Nat.{pow-succ', add-zero}
 use native.Mathlib.Omega.{arith}
 use lib.ListN.{length, getD, drop}
-use Rattle.std.proofs.shelf.Lists.{append-assoc, drop-drop, drop-at, drop-more, getD-drop, length-drop}
+use Rattle.std.proofs.shelf.Lists.{append-assoc, drop-drop, drop-at, drop-more, getD-drop}
 use Rattle.sheet.specs.Bytes.{field, bytes-of, AllBytes}
 
 pub bytes-length : (w n : ℕ) → length (bytes-of w n) ≡ w

@@ -1,6 +1,6 @@
 -- Bytes that hold operations read as those operations.
 use mathlib.Core.Path.{_≡_, refl, ap, sym, _∙_}
-use mathlib.Core.Bool.{Bool, true, false, cond, _&&_, _||_}
+use mathlib.Core.Bool.{true, _||_}
 use mathlib.Core.List.{List, [], _∷_, _++_}
 use Prim.Native.Nat.{ℕ, zero, suc, _+_, _*_, _^_, _≤_, _<_}
 use native.Mathlib.Omega.{arith}
@@ -8,25 +8,21 @@ use lib.Dec.{eqb, leb}
 use lib.ListN.{length, getD, drop}
 use Rattle.std.specs.Joined.{joined}
 use Rattle.std.specs.declared.option.Option.{Option}
-use Rattle.std.specs.declared.option.Option.the-variants.{Some, None}
-use Rattle.std.specs.declared.result.Result.{Result}
-use Rattle.std.specs.declared.result.Result.the-variants.{Ok, Err}
-use Rattle.std.proofs.shelf.Lists.{append-assoc}
+use Rattle.std.specs.declared.option.Option.the-variants.{Some}
+use Rattle.std.specs.declared.result.Result.the-variants.{Ok}
 use Rattle.std.proofs.shelf.Ways.{tells}
 use Rattle.std.proofs.shelf.Tests.{and-from, le-leb, lt-leb, cond-true, cond-false}
 use Rattle.sheet.specs.declared.kind.OperationKind.{OperationKind}
 use Rattle.sheet.specs.declared.kind.OperationKind.the-variants.{Read, Ll, Sc, Snapshot, Kcss}
 use Rattle.sheet.specs.declared.fault.SheetRefusal.the-variants.{WrongOperation}
-use Rattle.sheet.specs.declared.fault.SheetFault.{SheetFault}
-use Rattle.sheet.specs.declared.head.OperationHead.{OperationHead}
 use Rattle.sheet.specs.Bytes.{field, bytes-of}
-use Rattle.sheet.specs.Faults.{fault, followed}
+use Rattle.sheet.specs.Faults.{fault}
 use Rattle.sheet.specs.Kinds.{kind-number, kind-of, counted, takes-new, takes-expected}
 use Rattle.sheet.specs.Parts.{Act, read, ll, sc, snapshot, kcss, Op, Fitting, AllFitting}
 use Rattle.sheet.specs.Format.{act-kind, act-count, size-by, sizes, new-code, operands-bytes, op-bytes}
-use Rattle.sheet.specs.Reading.{unused, locations-from, head-fits, head-by, head-answer, value-answer, operands-answer, action-by, action-answer, operation-answer, operations-answer}
+use Rattle.sheet.specs.Reading.{unused, head-fits, head-by, head-answer, value-answer, operands-answer, action-by, action-answer, operation-answer, operations-answer}
 use Rattle.sheet.specs.Writing.{operations-end}
-use Rattle.sheet.proofs.Fields.{bytes-length, byte-at, byte-past, drop-past, next, peel, field-read}
+use Rattle.sheet.proofs.Fields.{bytes-length, byte-at, byte-past, drop-past, peel, field-read}
 use Rattle.sheet.proofs.Steps.{never-ok, ok-same, pass, passed, gather, go-on}
 use Rattle.sheet.proofs.Sizes.{op-length}
 use Rattle.sheet.proofs.ReadBack.{locations-read, location-read, value-by, operands-read}

@@ -1,20 +1,18 @@
 -- What writing accepts, reading returns.
 use mathlib.Core.Path.{_≡_, refl, ap, sym, _∙_}
-use mathlib.Core.Bool.{Bool, true, false, cond}
-use mathlib.Core.List.{List, [], _∷_, _++_, map}
-use Prim.Native.Nat.{ℕ, _+_, _*_, _^_, _≤_, _<_}
+use mathlib.Core.Bool.{cond}
+use mathlib.Core.List.{List, [], _++_, map}
+use Prim.Native.Nat.{ℕ, _+_, _*_, _^_, _<_}
 use native.Mathlib.Omega.{arith}
 use lib.Dec.{eqb, leb}
 use lib.ListN.{length, getD, drop, take}
 use Rattle.std.specs.Joined.{joined}
 use Rattle.std.specs.Results.{isOk}
 use Rattle.std.specs.declared.option.Option.{Option}
-use Rattle.std.specs.declared.option.Option.the-variants.{Some, None}
-use Rattle.std.specs.declared.result.Result.{Result}
-use Rattle.std.specs.declared.result.Result.the-variants.{Ok, Err}
+use Rattle.std.specs.declared.option.Option.the-variants.{Some}
+use Rattle.std.specs.declared.result.Result.the-variants.{Ok}
 use Rattle.std.proofs.shelf.Lists.{append-nil, take-at}
 use Rattle.std.proofs.shelf.Tests.{and-from, le-leb, eq-eqb}
-use Rattle.sheet.specs.declared.header.Header.{Header}
 use Rattle.sheet.specs.Bytes.{field, bytes-of, overwritten}
 use Rattle.sheet.specs.Parts.{Parts, AllFitting}
 use Rattle.sheet.specs.Format.{sizes, operations-at, script-at, total, item-byte, op-bytes, value-bytes, header-bytes, sheet-bytes}

@@ -1,18 +1,18 @@
 -- Parts of a sheet that were read stand in the bytes as they are written.
 use mathlib.Core.Path.{_≡_, refl, ap, sym, subst, _∙_}
-use mathlib.Core.Bool.{Bool, true, false, cond, _&&_}
+use mathlib.Core.Bool.{Bool, true, false, cond}
 use mathlib.Core.List.{List, [], _∷_, _++_, map}
-use Prim.Native.Nat.{ℕ, zero, suc, _+_, _*_, _≤_, _<_}
+use Prim.Native.Nat.{ℕ, zero, suc, _+_, _*_, _≤_}
 use native.Mathlib.Nat.{add-zero, mul-zero, mul-suc}
 use native.Mathlib.Omega.{arith}
-use lib.Dec.{eqb, leb, ltb}
+use lib.Dec.{eqb, ltb}
 use lib.ListN.{length, getD, drop}
 use Rattle.std.specs.Joined.{joined}
 use Rattle.std.specs.Options.{okOr}
 use Rattle.std.specs.declared.option.Option.{Option}
 use Rattle.std.specs.declared.option.Option.the-variants.{Some, None}
 use Rattle.std.specs.declared.result.Result.{Result}
-use Rattle.std.specs.declared.result.Result.the-variants.{Ok, Err}
+use Rattle.std.specs.declared.result.Result.the-variants.{Ok}
 use Rattle.std.proofs.shelf.Lists.{append-assoc, drop-more}
 use Rattle.std.proofs.shelf.Tests.{and-parts, eqb-true}
 use Rattle.sheet.specs.declared.fault.SheetRefusal.the-variants.{WrongScript, WrongCode}
@@ -26,7 +26,7 @@ use Rattle.sheet.specs.Format.{operand-bytes, item-byte, location-bytes, expec
 use Rattle.sheet.specs.Reading.{item-of, unused, locations-from, script-answer, value-answer, values-answer, operand-answer, operands-answer}
 use Rattle.sheet.specs.Writing.{writable, script-end}
 use Rattle.sheet.proofs.Fields.{field-back}
-use Rattle.sheet.proofs.Steps.{ok-same, pass, some-ok, Split, split, Begun, begun}
+use Rattle.sheet.proofs.Steps.{ok-same, pass, some-ok, split, begun}
 
 item-by : (b : ℕ) (x y : Bool) (i : ScriptItem) → ltb b 32 ≡ x → eqb b 255 ≡ y → cond x (Some (Step b)) (cond y (Some Start) None) ≡ Some i → (item-byte i ≡ b) × (writable i ≡ true)
 item-by b true y i p q e = let s : Step b ≡ i = cc in subst (λ j. (item-byte j ≡ b) × (writable j ≡ true)) s (refl, p)

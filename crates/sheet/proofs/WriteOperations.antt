@@ -1,9 +1,9 @@
 -- Operations that were read stand in the bytes as they are written.
 use mathlib.Core.Path.{_≡_, refl, ap, sym, subst, _∙_}
-use mathlib.Core.Bool.{Bool, true, false, cond, _&&_, _||_}
-use mathlib.Core.Logic.{_⊎_, inl, inr, ⊎-elim}
+use mathlib.Core.Bool.{true, _||_}
+use mathlib.Core.Logic.{⊎-elim}
 use mathlib.Core.List.{List, [], _∷_, _++_}
-use Prim.Native.Nat.{ℕ, zero, suc, _+_, _*_, _≤_, _<_}
+use Prim.Native.Nat.{ℕ, zero, suc, _+_, _*_, _≤_}
 use native.Mathlib.Omega.{arith}
 use lib.Dec.{eqb, leb}
 use lib.ListN.{length, getD, drop}
@@ -11,10 +11,10 @@ use Rattle.std.specs.Joined.{joined}
 use Rattle.std.specs.declared.option.Option.{Option}
 use Rattle.std.specs.declared.option.Option.the-variants.{Some, None}
 use Rattle.std.specs.declared.result.Result.{Result}
-use Rattle.std.specs.declared.result.Result.the-variants.{Ok, Err}
-use Rattle.std.proofs.shelf.Lists.{append-assoc, drop-more}
+use Rattle.std.specs.declared.result.Result.the-variants.{Ok}
+use Rattle.std.proofs.shelf.Lists.{drop-more}
 use Rattle.std.proofs.shelf.Ways.{tells}
-use Rattle.std.proofs.shelf.Tests.{and-parts, eqb-true, leb-true, leb-false, cond-true, cond-false, cases-bool}
+use Rattle.std.proofs.shelf.Tests.{and-parts, eqb-true, leb-true, cond-true, cond-false, cases-bool}
 use Rattle.sheet.specs.declared.kind.OperationKind.{OperationKind}
 use Rattle.sheet.specs.declared.kind.OperationKind.the-variants.{Read, Ll, Sc, Snapshot, Kcss}
 use Rattle.sheet.specs.declared.fault.SheetRefusal.the-variants.{WrongOperation}
@@ -23,12 +23,12 @@ use Rattle.sheet.specs.declared.head.OperationHead.{OperationHead}
 use Rattle.sheet.specs.Bytes.{field, bytes-of, AllBytes}
 use Rattle.sheet.specs.Faults.{fault, followed}
 use Rattle.sheet.specs.Kinds.{kind-number, kind-of, counted, takes-new, takes-expected}
-use Rattle.sheet.specs.Parts.{Act, read, ll, sc, snapshot, kcss, Op}
+use Rattle.sheet.specs.Parts.{Act, sc, kcss, Op}
 use Rattle.sheet.specs.Format.{act-kind, act-count, size-by, location-bytes, new-code, operands-bytes, op-bytes}
-use Rattle.sheet.specs.Reading.{unused, locations-from, head-fits, head-by, head-answer, value-answer, operands-answer, action-by, action-answer, operation-answer, operations-answer}
+use Rattle.sheet.specs.Reading.{unused, head-fits, head-by, head-answer, value-answer, operands-answer, action-by, action-answer, operation-answer, operations-answer}
 use Rattle.sheet.specs.Writing.{operations-end}
 use Rattle.sheet.proofs.Fields.{field-back}
-use Rattle.sheet.proofs.Steps.{never-ok, ok-same, pass, passed, Split, split, Begun, begun}
+use Rattle.sheet.proofs.Steps.{never-ok, ok-same, pass, passed, split, begun}
 use Rattle.sheet.proofs.WriteBack.{join, up-to, nothing, location-back, locations-back, value-code, operands-back}
 
 kind-back : (n : ℕ) (k : OperationKind) → kind-of n ≡ Some k → kind-number k ≡ n

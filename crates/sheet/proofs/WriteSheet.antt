@@ -1,28 +1,26 @@
 -- What reading accepts, writing gives back byte for byte.
 use mathlib.Core.Path.{_≡_, refl, ap, sym, subst, _∙_}
-use mathlib.Core.Bool.{Bool, true, false, cond, _&&_}
-use mathlib.Core.List.{List, [], _∷_, _++_, map}
-use Prim.Native.Nat.{ℕ, _+_, _*_, _≤_, _<_}
+use mathlib.Core.Bool.{_&&_}
+use mathlib.Core.List.{List, _∷_, _++_, map}
+use Prim.Native.Nat.{ℕ, _+_, _*_, _≤_}
 use native.Mathlib.Omega.{arith}
 use lib.Dec.{eqb, leb}
 use lib.ListN.{length, getD, drop}
 use Rattle.std.specs.Joined.{joined}
 use Rattle.std.specs.declared.option.Option.{Option}
-use Rattle.std.specs.declared.option.Option.the-variants.{Some, None}
-use Rattle.std.specs.declared.result.Result.{Result}
-use Rattle.std.specs.declared.result.Result.the-variants.{Ok, Err}
-use Rattle.std.proofs.shelf.Lists.{append-assoc, append-nil, drop-more, drop-all}
+use Rattle.std.specs.declared.option.Option.the-variants.{Some}
+use Rattle.std.specs.declared.result.Result.the-variants.{Ok}
+use Rattle.std.proofs.shelf.Lists.{append-nil, drop-more, drop-all}
 use Rattle.std.proofs.shelf.Tests.{and-parts, leb-true, eqb-true}
-use Rattle.sheet.specs.declared.parts.ScriptItem.{ScriptItem}
 use Rattle.sheet.specs.declared.header.Header.{Header}
 use Rattle.sheet.specs.Bytes.{field, bytes-of, AllBytes}
-use Rattle.sheet.specs.Parts.{Op, Parts}
+use Rattle.sheet.specs.Parts.{Parts}
 use Rattle.sheet.specs.Format.{operations-at, script-at, total, item-byte, op-bytes, value-bytes, header-bytes, sheet-bytes}
 use Rattle.sheet.specs.Reading.{within, starts, header-answer, values-answer, operations-answer, script-answer, joined-answer, body-answer, read-answer}
-use Rattle.sheet.specs.Writing.{operations-end, script-end, write-answer}
+use Rattle.sheet.specs.Writing.{operations-end, script-end}
 use Rattle.sheet.specs.RoundTrip.{ReadThenWrite}
 use Rattle.sheet.proofs.Fields.{field-back, field-fits}
-use Rattle.sheet.proofs.Steps.{ok-same, passed, Begun, begun}
+use Rattle.sheet.proofs.Steps.{ok-same, passed, begun}
 use Rattle.sheet.proofs.ReadOperations.{ends}
 use Rattle.sheet.proofs.Accepted.{within-true, Laid, accepted}
 use Rattle.sheet.proofs.WriteBack.{join, Scripted, script-back, values-back}
