@@ -6,3 +6,13 @@ pub mod Unused
 pub mod Heads
 pub mod Gathered
 pub mod Whole
+pub mod Fields
+pub mod Steps
+pub mod Sizes
+pub mod ReadBack
+pub mod ReadOperations
+pub mod Accepted
+pub mod ReadSheet
+pub mod WriteBack
+pub mod WriteOperations
+pub mod WriteSheet
