@@ -1,6 +1,6 @@
 // The five kinds of operations, with the numbers by which a run sheet names them.
 ghost use mathlib.Core.Path.{_≡_};
-ghost use Rattle.sheet.specs.Kinds.{kind-number, kind-of};
+ghost use Rattle.sheet.specs.Kinds.{kind-number, kind-of, counted};
 
 #[derive(Clone, Copy)]
 pub enum OperationKind {
@@ -30,6 +30,16 @@ impl OperationKind {
             4 => Some(OperationKind::Snapshot),
             5 => Some(OperationKind::Kcss),
             _ => None,
+        }
+    }
+
+    // Whether an operation of this kind may name so many locations.
+    pub fn counts(&self, count: usize) -> bool
+        ensures { λ r. ⌜ r ≡ counted (now (self .entry)) count ⌝ }
+    {
+        match self {
+            OperationKind::Read | OperationKind::Ll | OperationKind::Sc => count == 1,
+            OperationKind::Snapshot | OperationKind::Kcss => 1 <= count && count <= 16,
         }
     }
 }

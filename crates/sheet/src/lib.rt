@@ -1,10 +1,12 @@
 // Run sheets: what an examination run is to do, as types and as bytes, with reading and writing.
 // Uses `value` and the standard library.
+mod action;
 mod fault;
 mod head;
 mod header;
 mod kind;
 mod parts;
+mod puts;
 pub use fault::ReadError;
 pub use fault::ReadErrorFromAlloc;
 pub use fault::ReadErrorFromFault;

@@ -1,0 +1,13 @@
+-- Bytes put into an output from `at` on: the room that they take, what they leave, and where they end.
+use mathlib.Core.List.{List}
+use mathlib.Core.Path.{_≡_}
+use Prim.Native.Nat.{ℕ, _+_, _≤_}
+use lib.ListN.{length}
+use Rattle.sheet.specs.Bytes.{put}
+
+pub record Room (out : List ℕ) (at : ℕ) (bytes : List ℕ) : Type 0 where
+  pub holds : at + length bytes ≤ length out
+
+pub record Puts (out : List ℕ) (at : ℕ) (bytes after : List ℕ) (next : ℕ) : Type 0 where
+  pub leaves : after ≡ put out at bytes
+  pub ends : next ≡ at + length bytes
