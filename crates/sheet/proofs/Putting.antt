@@ -19,10 +19,6 @@ pub put-none : (out : List ℕ) (at : ℕ) → put out at [] ≡ out
 unfolding put
 put-none out at = refl
 
-pub put-one : (out : List ℕ) (at b : ℕ) → put out at (b ∷ []) ≡ set out at b
-unfolding put
-put-one out at b = refl
-
 pub put-put : (out : List ℕ) (at : ℕ) (xs ys : List ℕ) → put (put out at xs) (at + length xs) ys ≡ put out at (xs ++ ys)
 unfolding put
 put-put out at [] ys = ap (λ n. put out n ys) (add-zero at)
@@ -84,7 +80,11 @@ module _ {X : Type 0} (f : X → List ℕ) (xs : List X) (start : List ℕ) (at 
           (ap (λ o. put o further rest) (p .leaves) ∙ ap (λ n. put (put out next bs) n rest) (p .ends) ∙ put-put out next bs rest ∙ ap (put out next) (sym left-here) ∙ l .0,
            omega (arith, p .ends, l .1, ap length left-here, length-append bs rest))
 
--- bytes one by one
+-- a byte, and bytes one by one
+pub byte-of : (b : ℕ) → b < 256 → bytes-of 1 b ≡ b ∷ []
+unfolding bytes-of
+byte-of b h = let e : b % 256 ≡ b = omega arith in ap (λ n. n ∷ []) e
+
 abbrev pub one-byte : ℕ → List ℕ
 one-byte b = b ∷ []
 

@@ -3,7 +3,7 @@ use mathlib.Core.List.{List}
 use mathlib.Core.Path.{_≡_}
 use Prim.Native.Nat.{ℕ, _+_, _≤_}
 use lib.ListN.{length}
-use Rattle.sheet.specs.Bytes.{put}
+use Rattle.sheet.specs.Bytes.{put, bytes-of}
 
 pub record Room (out : List ℕ) (at : ℕ) (bytes : List ℕ) : Type 0 where
   pub holds : at + length bytes ≤ length out
@@ -11,3 +11,7 @@ pub record Room (out : List ℕ) (at : ℕ) (bytes : List ℕ) : Type 0 where
 pub record Puts (out : List ℕ) (at : ℕ) (bytes after : List ℕ) (next : ℕ) : Type 0 where
   pub leaves : after ≡ put out at bytes
   pub ends : next ≡ at + length bytes
+
+-- a number with the count of its bytes
+abbrev pub field-bytes : ℕ × ℕ → List ℕ
+field-bytes f = bytes-of (f .0) (f .1)

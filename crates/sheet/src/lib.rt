@@ -5,6 +5,7 @@ mod fault;
 mod head;
 mod header;
 mod kind;
+mod layout;
 mod parts;
 mod puts;
 pub use fault::ReadError;

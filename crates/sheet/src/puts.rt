@@ -1,26 +1,20 @@
 // The parts of a sheet put into an output, each from a given place on. Each call returns the place where
 // the next part goes.
-ghost use mathlib.Core.List.{_∷_, [], map};
+ghost use mathlib.Core.List.{map};
+ghost use mathlib.Core.Path.{_≡_};
 ghost use Prim.Native.Nat.{ℕ, _<_};
 ghost use lib.ListN.{length, getD};
 ghost use Rattle.std.specs.Joined.{joined};
 ghost use Rattle.sheet.specs.Bytes.{bytes-of};
-ghost use Rattle.sheet.specs.Format.{operand-bytes, item-byte, expected-bytes, operands-bytes, op-bytes, value-bytes, act-count};
-ghost use Rattle.sheet.specs.Parts.{act-of, op-of};
-ghost use Rattle.sheet.specs.Puts.{Room, Puts};
+ghost use Rattle.sheet.specs.Format.{operand-bytes, item-byte, expected-bytes, operands-bytes, op-bytes, value-bytes, act-count, header-bytes, total};
+ghost use Rattle.sheet.specs.Parts.{act-of, op-of, parts-of};
+ghost use Rattle.sheet.specs.Puts.{Room, Puts, field-bytes};
 use crate::parts::Action;
 use crate::parts::Operand;
 use crate::parts::Operation;
 use crate::parts::ScriptItem;
+use crate::parts::Sheet;
 use value::ValueKind;
-
-fn put_byte(out: &mut [u8], at: usize, byte: u8) -> usize
-    requires { ⌜ Room (now out) at (byte ∷ []) ⌝ }
-    ensures { λ r. ⌜ Puts (now (out .entry)) at (byte ∷ []) (now (out .exit)) r ⌝ }
-{
-    out[at] = byte;
-    at + 1
-}
 
 // A number in so many bytes, the lowest first.
 fn put_number(out: &mut [u8], at: usize, width: usize, number: u64) -> usize
@@ -33,6 +27,18 @@ fn put_number(out: &mut [u8], at: usize, width: usize, number: u64) -> usize
         rest /= 256;
     }
     at + width
+}
+
+// Numbers one after another, each with the count of its bytes.
+fn put_fields(out: &mut [u8], at: usize, fields: &[(usize, u64)]) -> usize
+    requires { ⌜ Room (now out) at (joined field-bytes (now fields)) ⌝ }
+    ensures { λ r. ⌜ Puts (now (out .entry)) at (joined field-bytes (now (fields .entry))) (now (out .exit)) r ⌝ }
+{
+    let mut next = at;
+    for (width, number) in fields {
+        next = put_number(out, next, *width, *number);
+    }
+    next
 }
 
 // The codes of the values.
@@ -97,12 +103,15 @@ fn put_operation<V: ValueKind>(out: &mut [u8], at: usize, operation: &Operation<
     ensures { λ r. ⌜ Puts (now (out .entry)) at (op-bytes coded (op-of (now (operation .entry)))) (now (out .exit)) r ⌝ }
 {
     let action = &operation.action;
-    let process_at = put_byte(out, at, action.kind().number());
-    let count_at = put_byte(out, process_at, operation.process);
-    let zero_at = put_byte(out, count_at, action.count() as u8);
-    let new_at = put_byte(out, zero_at, 0);
-    let operands_at = put_number(out, new_at, 8, action.new_code());
-    put_operands(out, operands_at, action)
+    let head = [
+        (1, action.kind().number() as u64),
+        (1, operation.process as u64),
+        (1, action.count() as u64),
+        (1, 0),
+        (8, action.new_code()),
+    ];
+    let next = put_fields(out, at, &head);
+    put_operands(out, next, action)
 }
 
 pub fn put_operations<V: ValueKind>(out: &mut [u8], at: usize, operations: &[Operation<V>]) -> usize
@@ -124,7 +133,29 @@ pub fn put_script(out: &mut [u8], at: usize, items: &[ScriptItem]) -> usize
 {
     let mut next = at;
     for item in items {
-        next = put_byte(out, next, item.byte());
+        next = put_number(out, next, 1, item.byte() as u64);
     }
     next
+}
+
+// The header of a sheet whose bytes end at `end`.
+pub fn put_header<V: ValueKind>(out: &mut [u8], sheet: &Sheet<V>, end: usize) -> usize
+    requires room { ⌜ Room (now out) 0 (header-bytes coded number (parts-of (now sheet))) ⌝ }
+    requires whole { ⌜ end ≡ total (parts-of (now sheet)) ⌝ }
+    ensures { λ r. ⌜ Puts (now (out .entry)) 0 (header-bytes coded number (parts-of (now (sheet .entry)))) (now (out .exit)) r ⌝ }
+{
+    let locations = sheet.initial.len();
+    let items = sheet.script.len();
+    let header = [
+        (1, 1),
+        (1, V::kind_number() as u64),
+        (2, locations as u64),
+        (2, sheet.processes as u64),
+        (2, items as u64),
+        (4, 24),
+        (4, (24 + 8 * locations) as u64),
+        (4, (end - items) as u64),
+        (4, end as u64),
+    ];
+    put_fields(out, 0, &header)
 }
