@@ -2,6 +2,7 @@
 use mathlib.Core.Path.{_≡_, refl, sym, ap, _∙_}
 use mathlib.Core.Bool.{Bool, true, false, cond, _&&_}
 use mathlib.Core.List.{List, [], _∷_, map}
+use mathlib.Core.Logic.{_⊎_}
 use Prim.Native.Nat.{ℕ, zero, suc, _+_, _-_, _*_, _<_, _≤_}
 use native.Mathlib.Omega.{arith}
 use lib.Dec.{eqb, leb, ltb}
@@ -14,11 +15,12 @@ use Rattle.sheet.specs.declared.kind.OperationKind.{OperationKind}
 use Rattle.sheet.specs.declared.kind.OperationKind.the-variants.{Read, Ll, Sc, Snapshot, Kcss}
 use Rattle.sheet.specs.declared.fault.SheetRefusal.the-variants.{WrongHeader, WrongOperation, WrongScript}
 use Rattle.sheet.specs.declared.fault.SheetFault.{SheetFault}
+use Rattle.sheet.specs.declared.parts.Operation.{Operation}
 use Rattle.sheet.specs.declared.parts.ScriptItem.{ScriptItem}
 use Rattle.sheet.specs.declared.parts.ScriptItem.the-variants.{Start, Step}
 use Rattle.sheet.specs.Kinds.{counted}
 use Rattle.sheet.specs.Faults.{fault, require, then}
-use Rattle.sheet.specs.Parts.{Op, Parts}
+use Rattle.sheet.specs.Parts.{Op, Parts, op-of}
 use Rattle.sheet.specs.Format.{act-kind, act-count, size-by, sizes, operations-at, script-at, total}
 use Rattle.sheet.specs.Reading.{within, starts}
 use Rattle.sheet.specs.Writing.{operations-end, writable, script-end, layout-answer}
@@ -100,7 +102,72 @@ module _ (items : List ScriptItem) (i at : ℕ) (h : i < length items) (b : Bool
   pub item-on : b ≡ true → script-end at (drop i items) ≡ script-end (at + 1) (drop (i + 1) items)
   item-on e = item-here ∙ ap (λ t. require t (fault WrongScript at) (script-end (at + 1) (drop (i + 1) items))) e
 
--- an item that starts none counts for none
-pub starts-on : (i : ScriptItem) (rest : List ScriptItem) → (i ≡ Start → ⊥) → starts (i ∷ rest) ≡ starts rest
-starts-on Start rest h = absurd (h refl)
-starts-on (Step p) rest h = refl
+-- the tests of a rule, one by one
+within-true : (low high n : ℕ) → low ≤ n → n ≤ high → within low high n ≡ true
+within-true low high n h k = grind (arith, tells)
+
+within-false : (low high n : ℕ) → (n < low) ⊎ (high < n) → within low high n ≡ false
+within-false low high n h = grind (arith, tells)
+
+require-true : {X : Type 0} (b : Bool) (f : SheetFault) (next : Result X SheetFault) → b ≡ true → require b f next ≡ next
+require-true b f next e = ap (λ t. require t f next) e
+
+require-false : {X : Type 0} (b : Bool) (f : SheetFault) (next : Result X SheetFault) → b ≡ false → require b f next ≡ Err f
+require-false b f next e = ap (λ t. require t f next) e
+
+then-ok : {X Y : Type 0} (r : Result X SheetFault) (next : X → Result Y SheetFault) (x : X) → r ≡ Ok x → then r next ≡ next x
+then-ok r next x e = ap (λ t. then t next) e
+
+then-err : {X Y : Type 0} (r : Result X SheetFault) (next : X → Result Y SheetFault) (f : SheetFault) → r ≡ Err f → then r next ≡ Err f
+then-err r next f e = ap (λ t. then t next) e
+
+-- what the code found of its lists, at equal ones
+pub ops-at : {V : Type 0} (r w : Result ℕ SheetFault) (n n′ : ℕ) (os os′ : List (Operation V)) → r ≡ operations-end (24 + 8 * n) 4096 (map op-of os) → r ≡ w → n ≡ n′ → os ≡ os′
+  → operations-end (24 + 8 * n′) 4096 (map op-of os′) ≡ w
+ops-at r w n n′ os os′ is was p q = sym (λ i. operations-end (24 + 8 * p i) 4096 (map op-of (q i))) ∙ sym is ∙ was
+
+pub items-at : (r w : Result ℕ SheetFault) (at : ℕ) (items items′ : List ScriptItem) → r ≡ script-end at items → r ≡ w → items ≡ items′ → script-end at items′ ≡ w
+items-at r w at items items′ is was q = sym (ap (script-end at) q) ∙ sym is ∙ was
+
+-- the ways out of the layout
+module _ {V : Type 0} (p : Parts V) where
+  abbrev script-rule : ℕ → Result ℕ SheetFault
+  script-rule end = require (eqb (starts (p .script)) (length (p .operations))) (fault WrongScript end) (Ok end)
+
+  abbrev body-rule : Result ℕ SheetFault
+  body-rule = then (operations-end (operations-at p) 4096 (p .operations)) (λ s. then (script-end s (p .script)) script-rule)
+
+  pub wrong-locations : (length (p .initial) < 1) ⊎ (256 < length (p .initial)) → layout-answer p ≡ Err (fault WrongHeader 2)
+  unfolding layout-answer
+  wrong-locations h = require-false _ _ _ (within-false 1 256 (length (p .initial)) h)
+
+  module _ (l : 1 ≤ length (p .initial)) (m : length (p .initial) ≤ 256) where
+    pub wrong-processes : (p .processes < 1) ⊎ (32 < p .processes) → layout-answer p ≡ Err (fault WrongHeader 4)
+    unfolding layout-answer
+    wrong-processes h = require-true _ _ _ (within-true 1 256 (length (p .initial)) l m) ∙ require-false _ _ _ (within-false 1 32 (p .processes) h)
+
+    module _ (q : 1 ≤ p .processes) (r : p .processes ≤ 32) where
+      pub wrong-items : 65535 < length (p .script) → layout-answer p ≡ Err (fault WrongHeader 6)
+      unfolding layout-answer
+      wrong-items h = require-true _ _ _ (within-true 1 256 (length (p .initial)) l m) ∙ require-true _ _ _ (within-true 1 32 (p .processes) q r)
+        ∙ (let e : leb (length (p .script)) 65535 ≡ false = grind (arith, tells) in require-false _ _ _ e)
+
+      module _ (n : length (p .script) ≤ 65535) where
+        body : layout-answer p ≡ body-rule
+        unfolding layout-answer
+        body = require-true _ _ _ (within-true 1 256 (length (p .initial)) l m) ∙ require-true _ _ _ (within-true 1 32 (p .processes) q r)
+          ∙ (let e : leb (length (p .script)) 65535 ≡ true = grind (arith, tells) in require-true _ _ _ e)
+
+        pub wrong-operation : (f : SheetFault) → operations-end (operations-at p) 4096 (p .operations) ≡ Err f → layout-answer p ≡ Err f
+        wrong-operation f e = body ∙ then-err _ _ f e
+
+        module _ (s : ℕ) (ops : operations-end (operations-at p) 4096 (p .operations) ≡ Ok s) where
+          pub wrong-item : (f : SheetFault) → script-end s (p .script) ≡ Err f → layout-answer p ≡ Err f
+          wrong-item f e = body ∙ then-ok _ _ s ops ∙ then-err _ _ f e
+
+          module _ (end : ℕ) (items : script-end s (p .script) ≡ Ok end) where
+            pub wrong-starts : (starts (p .script) ≡ length (p .operations) → ⊥) → layout-answer p ≡ Err (fault WrongScript end)
+            wrong-starts h = body ∙ then-ok _ _ s ops ∙ then-ok _ _ end items ∙ (let e : eqb (starts (p .script)) (length (p .operations)) ≡ false = grind (arith, tells) in require-false _ _ _ e)
+
+            pub right-starts : starts (p .script) ≡ length (p .operations) → layout-answer p ≡ Ok end
+            right-starts h = body ∙ then-ok _ _ s ops ∙ then-ok _ _ end items ∙ (let e : eqb (starts (p .script)) (length (p .operations)) ≡ true = grind (arith, tells) in require-true _ _ _ e)

@@ -5,7 +5,7 @@ use Prim.Native.Nat.{ℕ, zero, suc, _+_, _-_, _/_, _%_, _<_, _≤_}
 use native.Mathlib.Nat.{add-zero}
 use native.Mathlib.Omega.{arith}
 use lib.ListN.{length, set, getD, drop}
-use Rattle.std.proofs.shelf.Lists.{length-set, length-append, append-nil, at-drop-more, at-drop-all}
+use Rattle.std.proofs.shelf.Lists.{length-set, length-append, length-push, set-at, append-assoc, at-drop-more, at-drop-all}
 use Rattle.std.specs.Joined.{joined}
 use Rattle.sheet.specs.Bytes.{put, bytes-of, overwritten}
 use Rattle.sheet.specs.Puts.{Room, Puts}
@@ -91,3 +91,16 @@ one-byte b = b ∷ []
 pub joined-one : (bs : List ℕ) → joined one-byte bs ≡ bs
 joined-one [] = refl
 joined-one (b ∷ bs) = ap (λ r. b ∷ r) (joined-one bs)
+
+-- bytes put from the beginning on are the front of the output
+put-front : (front bs rest : List ℕ) (at : ℕ) → length front ≡ at → length bs ≤ length rest → put (front ++ rest) at bs ≡ front ++ (bs ++ drop (length bs) rest)
+unfolding put
+put-front front [] rest at e h = refl
+put-front front (b ∷ bs) [] at e h = absurd (omega arith)
+put-front front (b ∷ bs) (r ∷ rest) at e h =
+    ap (λ o. put o (at + 1) bs) (set-at front r rest b at e ∙ sym (append-assoc front (b ∷ []) rest))
+    ∙ put-front (front ++ b ∷ []) bs rest (at + 1) (length-push front b ∙ ap (λ n. n + 1) e) (omega arith)
+    ∙ append-assoc front (b ∷ []) (bs ++ drop (length bs) rest)
+
+pub put-over : (bs out : List ℕ) → length bs ≤ length out → put out 0 bs ≡ overwritten bs out
+put-over bs out h = put-front [] bs out 0 refl h

@@ -8,6 +8,7 @@ mod kind;
 mod layout;
 mod parts;
 mod puts;
+mod write;
 pub use fault::ReadError;
 pub use fault::ReadErrorFromAlloc;
 pub use fault::ReadErrorFromFault;

@@ -2,13 +2,13 @@
 // the next part goes.
 ghost use mathlib.Core.List.{map};
 ghost use mathlib.Core.Path.{_≡_};
-ghost use Prim.Native.Nat.{ℕ, _<_};
-ghost use lib.ListN.{length, getD};
+ghost use Prim.Native.Nat.{_<_};
+ghost use Rattle.std.specs.Of.Vec.{vec-items};
 ghost use Rattle.std.specs.Joined.{joined};
 ghost use Rattle.sheet.specs.Bytes.{bytes-of};
-ghost use Rattle.sheet.specs.Format.{operand-bytes, item-byte, expected-bytes, operands-bytes, op-bytes, value-bytes, act-count, header-bytes, total};
+ghost use Rattle.sheet.specs.Format.{operand-bytes, item-byte, expected-bytes, operands-bytes, op-bytes, value-bytes, act-count, header-bytes, sheet-bytes, total};
 ghost use Rattle.sheet.specs.Parts.{act-of, op-of, parts-of};
-ghost use Rattle.sheet.specs.Puts.{Room, Puts, field-bytes};
+ghost use Rattle.sheet.specs.Puts.{Room, Puts, Small, field-bytes};
 use crate::parts::Action;
 use crate::parts::Operand;
 use crate::parts::Operation;
@@ -42,7 +42,7 @@ fn put_fields(out: &mut [u8], at: usize, fields: &[(usize, u64)]) -> usize
 }
 
 // The codes of the values.
-pub fn put_values<V: ValueKind>(out: &mut [u8], at: usize, values: &[V]) -> usize
+fn put_values<V: ValueKind>(out: &mut [u8], at: usize, values: &[V]) -> usize
     requires { ⌜ Room (now out) at (joined (value-bytes coded) (now values)) ⌝ }
     ensures { λ r. ⌜ Puts (now (out .entry)) at (joined (value-bytes coded) (now (values .entry))) (now (out .exit)) r ⌝ }
 {
@@ -114,9 +114,9 @@ fn put_operation<V: ValueKind>(out: &mut [u8], at: usize, operation: &Operation<
     put_operands(out, next, action)
 }
 
-pub fn put_operations<V: ValueKind>(out: &mut [u8], at: usize, operations: &[Operation<V>]) -> usize
+fn put_operations<V: ValueKind>(out: &mut [u8], at: usize, operations: &[Operation<V>]) -> usize
     requires room { ⌜ Room (now out) at (joined (op-bytes coded) (map op-of (now operations))) ⌝ }
-    requires small { ⌜ ((k : ℕ) (d : Operation V) → k < length (now operations) → act-count (act-of (getD (now operations) k d .action)) < 256) ⌝ }
+    requires small { ⌜ Small (now operations) ⌝ }
     ensures { λ r. ⌜ Puts (now (out .entry)) at (joined (op-bytes coded) (map op-of (now (operations .entry)))) (now (out .exit)) r ⌝ }
 {
     let mut next = at;
@@ -127,7 +127,7 @@ pub fn put_operations<V: ValueKind>(out: &mut [u8], at: usize, operations: &[Ope
 }
 
 // The schedule, a byte for each item.
-pub fn put_script(out: &mut [u8], at: usize, items: &[ScriptItem]) -> usize
+fn put_script(out: &mut [u8], at: usize, items: &[ScriptItem]) -> usize
     requires { ⌜ Room (now out) at (map item-byte (now items)) ⌝ }
     ensures { λ r. ⌜ Puts (now (out .entry)) at (map item-byte (now (items .entry))) (now (out .exit)) r ⌝ }
 {
@@ -139,7 +139,7 @@ pub fn put_script(out: &mut [u8], at: usize, items: &[ScriptItem]) -> usize
 }
 
 // The header of a sheet whose bytes end at `end`.
-pub fn put_header<V: ValueKind>(out: &mut [u8], sheet: &Sheet<V>, end: usize) -> usize
+fn put_header<V: ValueKind>(out: &mut [u8], sheet: &Sheet<V>, end: usize) -> usize
     requires room { ⌜ Room (now out) 0 (header-bytes coded number (parts-of (now sheet))) ⌝ }
     requires whole { ⌜ end ≡ total (parts-of (now sheet)) ⌝ }
     ensures { λ r. ⌜ Puts (now (out .entry)) 0 (header-bytes coded number (parts-of (now (sheet .entry)))) (now (out .exit)) r ⌝ }
@@ -158,4 +158,17 @@ pub fn put_header<V: ValueKind>(out: &mut [u8], sheet: &Sheet<V>, end: usize) ->
         (4, end as u64),
     ];
     put_fields(out, 0, &header)
+}
+
+// A whole sheet, from the beginning of the output on; its bytes end at `end`.
+pub fn put_sheet<V: ValueKind>(out: &mut [u8], sheet: &Sheet<V>, end: usize) -> usize
+    requires room { ⌜ Room (now out) 0 (sheet-bytes coded number (parts-of (now sheet))) ⌝ }
+    requires whole { ⌜ end ≡ total (parts-of (now sheet)) ⌝ }
+    requires small { ⌜ Small (vec-items (now sheet .operations)) ⌝ }
+    ensures { λ r. ⌜ Puts (now (out .entry)) 0 (sheet-bytes coded number (parts-of (now (sheet .entry)))) (now (out .exit)) r ⌝ }
+{
+    let values_at = put_header(out, sheet, end);
+    let operations_at = put_values(out, values_at, &sheet.initial);
+    let script_at = put_operations(out, operations_at, &sheet.operations);
+    put_script(out, script_at, &sheet.script)
 }
