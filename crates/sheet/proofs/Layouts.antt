@@ -37,17 +37,17 @@ counted-small Kcss n e = grind (arith, tells)
 pub counted-at : (r b : Bool) (k k′ : OperationKind) (n n′ : ℕ) → r ≡ counted k n → r ≡ b → k ≡ k′ → n ≡ n′ → counted k′ n′ ≡ b
 counted-at r b k k′ n n′ is was p q = sym (λ i. counted (p i) (q i)) ∙ sym is ∙ was
 
-ops-none : (V : Type 0) (at left : ℕ) → operations-end {V = V} at left [] ≡ Ok at
+pub ops-none : (V : Type 0) (at left : ℕ) → operations-end {V = V} at left [] ≡ Ok at
 unfolding operations-end
 ops-none V at zero = refl
 ops-none V at (suc left) = refl
 
 module _ {V : Type 0} where
-  ops-full : (at : ℕ) (o : Op V) (rest : List (Op V)) → operations-end at 0 (o ∷ rest) ≡ Err (fault WrongOperation at)
+  pub ops-full : (at : ℕ) (o : Op V) (rest : List (Op V)) → operations-end at 0 (o ∷ rest) ≡ Err (fault WrongOperation at)
   unfolding operations-end
   ops-full at o rest = refl
 
-  ops-more : (at left : ℕ) (o : Op V) (rest : List (Op V)) → operations-end at (suc left) (o ∷ rest)
+  pub ops-more : (at left : ℕ) (o : Op V) (rest : List (Op V)) → operations-end at (suc left) (o ∷ rest)
     ≡ require (counted (act-kind (o .act)) (act-count (o .act))) (fault WrongOperation at) (operations-end (at + size-by (act-count (o .act))) left rest)
   unfolding operations-end
   ops-more at left o rest = refl
@@ -79,11 +79,11 @@ module _ {V : Type 0} where
         ∙ sym (here left ∙ ap (λ n. operations-end end n (o ∷ rest)) e ∙ ops-more end fewer o rest
           ∙ ap (λ b. require b (fault WrongOperation end) (operations-end (end + size-by (act-count (o .act))) fewer rest)) t)
 
-script-none : (at : ℕ) → script-end at [] ≡ Ok at
+pub script-none : (at : ℕ) → script-end at [] ≡ Ok at
 unfolding script-end
 script-none at = refl
 
-script-more : (at : ℕ) (i : ScriptItem) (rest : List ScriptItem) → script-end at (i ∷ rest) ≡ require (writable i) (fault WrongScript at) (script-end (at + 1) rest)
+pub script-more : (at : ℕ) (i : ScriptItem) (rest : List ScriptItem) → script-end at (i ∷ rest) ≡ require (writable i) (fault WrongScript at) (script-end (at + 1) rest)
 unfolding script-end
 script-more at i rest = refl
 
@@ -109,16 +109,16 @@ within-true low high n h k = grind (arith, tells)
 within-false : (low high n : ℕ) → (n < low) ⊎ (high < n) → within low high n ≡ false
 within-false low high n h = grind (arith, tells)
 
-require-true : {X : Type 0} (b : Bool) (f : SheetFault) (next : Result X SheetFault) → b ≡ true → require b f next ≡ next
+pub require-true : {X : Type 0} (b : Bool) (f : SheetFault) (next : Result X SheetFault) → b ≡ true → require b f next ≡ next
 require-true b f next e = ap (λ t. require t f next) e
 
-require-false : {X : Type 0} (b : Bool) (f : SheetFault) (next : Result X SheetFault) → b ≡ false → require b f next ≡ Err f
+pub require-false : {X : Type 0} (b : Bool) (f : SheetFault) (next : Result X SheetFault) → b ≡ false → require b f next ≡ Err f
 require-false b f next e = ap (λ t. require t f next) e
 
-then-ok : {X Y : Type 0} (r : Result X SheetFault) (next : X → Result Y SheetFault) (x : X) → r ≡ Ok x → then r next ≡ next x
+pub then-ok : {X Y : Type 0} (r : Result X SheetFault) (next : X → Result Y SheetFault) (x : X) → r ≡ Ok x → then r next ≡ next x
 then-ok r next x e = ap (λ t. then t next) e
 
-then-err : {X Y : Type 0} (r : Result X SheetFault) (next : X → Result Y SheetFault) (f : SheetFault) → r ≡ Err f → then r next ≡ Err f
+pub then-err : {X Y : Type 0} (r : Result X SheetFault) (next : X → Result Y SheetFault) (f : SheetFault) → r ≡ Err f → then r next ≡ Err f
 then-err r next f e = ap (λ t. then t next) e
 
 -- what the code found of its lists, at equal ones
@@ -129,12 +129,12 @@ ops-at r w n n′ os os′ is was p q = sym (λ i. operations-end (24 + 8 * p i)
 pub items-at : (r w : Result ℕ SheetFault) (at : ℕ) (items items′ : List ScriptItem) → r ≡ script-end at items → r ≡ w → items ≡ items′ → script-end at items′ ≡ w
 items-at r w at items items′ is was q = sym (ap (script-end at) q) ∙ sym is ∙ was
 
--- the ways out of the layout
+-- the rules of the layout past the three counts, and its ways out
 module _ {V : Type 0} (p : Parts V) where
-  abbrev script-rule : ℕ → Result ℕ SheetFault
+  abbrev pub script-rule : ℕ → Result ℕ SheetFault
   script-rule end = require (eqb (starts (p .script)) (length (p .operations))) (fault WrongScript end) (Ok end)
 
-  abbrev body-rule : Result ℕ SheetFault
+  abbrev pub body-rule : Result ℕ SheetFault
   body-rule = then (operations-end (operations-at p) 4096 (p .operations)) (λ s. then (script-end s (p .script)) script-rule)
 
   pub wrong-locations : (length (p .initial) < 1) ⊎ (256 < length (p .initial)) → layout-answer p ≡ Err (fault WrongHeader 2)

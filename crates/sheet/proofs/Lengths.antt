@@ -63,3 +63,13 @@ module _ {V : Type 0} (code : V → ℕ) where
       let s : end - items ≡ script-at p = omega (arith, e, f, h) in
       (λ i. byte-of 1 (lit< tt) i ++ (byte-of number small i ++ (bytes-of 2 (e i) ++ (bytes-of 2 (p .processes) ++ (bytes-of 2 (f i)
       ++ (bytes-of 4 24 ++ (bytes-of 4 (24 + 8 * e i) ++ (bytes-of 4 (s i) ++ append-nil (bytes-of 4 (h i)) i))))))))
+
+  length-header : (number : ℕ) (p : Parts V) → length (header-bytes code number p) ≡ 24
+  unfolding header-bytes
+  length-header number p = simp (length-append, length-bytes-of)
+
+  pub length-sheet : (number : ℕ) (p : Parts V) → length (sheet-bytes code number p) ≡ total p
+  unfolding sheet-bytes
+  length-sheet number p =
+      simp length-append
+      (omega (arith, length-header number p, length-joined (value-bytes code) 8 (λ v. length-bytes-of 8 (code v)) (p .initial), length-ops (p .operations), length-map (p .script) item-byte))
