@@ -16,3 +16,7 @@ pub mod ReadSheet
 pub mod WriteBack
 pub mod WriteOperations
 pub mod WriteSheet
+pub mod Putting
+pub mod Lengths
+pub mod Layouts
+pub mod Written

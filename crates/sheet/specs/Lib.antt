@@ -6,3 +6,4 @@ pub mod Format
 pub mod Reading
 pub mod Writing
 pub mod RoundTrip
+pub mod Puts

@@ -34,12 +34,12 @@ impl OperationKind {
     }
 
     // Whether an operation of this kind may name so many locations.
-    pub fn takes(&self, count: usize) -> bool
+    pub fn counts(&self, count: usize) -> bool
         ensures { λ r. ⌜ r ≡ counted (now (self .entry)) count ⌝ }
     {
         match self {
             OperationKind::Read | OperationKind::Ll | OperationKind::Sc => count == 1,
-            OperationKind::Snapshot | OperationKind::Kcss => count >= 1 && count <= 16,
+            OperationKind::Snapshot | OperationKind::Kcss => 1 <= count && count <= 16,
         }
     }
 

@@ -1,16 +1,20 @@
 // Run sheets: what an examination run is to do, as types and as bytes, with reading and writing.
 // Uses `value` and the standard library.
+mod action;
 mod bytes;
 mod fault;
 mod head;
 mod header;
 mod kind;
+mod layout;
 mod parts;
+mod puts;
 mod read;
 mod read_header;
 mod read_lists;
 mod read_operation;
 mod trips;
+mod write;
 pub use fault::ReadError;
 pub use fault::ReadErrorFromAlloc;
 pub use fault::ReadErrorFromFault;

@@ -6,14 +6,14 @@ ghost use lib.ListN.{length};
 ghost use Rattle.std.specs.Of.Vec.{vec-items};
 ghost use Rattle.sheet.specs.Faults.{Reads};
 ghost use Rattle.sheet.specs.Parts.{op-of, parts-of};
-ghost use Rattle.sheet.specs.Reading.{operations-answer, read-answer, starts};
+ghost use Rattle.sheet.specs.Reading.{operations-answer, read-answer};
 use crate::fault::ReadError;
 use crate::fault::ReadErrorFromFault;
 use crate::fault::ReadErrorFromRefused;
 use crate::fault::SheetFault;
 use crate::fault::SheetRefusal;
+use crate::layout::start_count;
 use crate::parts::Operation;
-use crate::parts::ScriptItem;
 use crate::parts::Sheet;
 use crate::read_header::read_header;
 use crate::read_lists::read_script;
@@ -47,19 +47,6 @@ fn read_operations<V: ValueKind>(
         next = after;
     }
     Ok(operations)
-}
-
-// How many items start an operation.
-pub fn start_count(items: &[ScriptItem]) -> usize
-    ensures { λ r. ⌜ r ≡ starts (now (items .entry)) ⌝ }
-{
-    let mut count = 0;
-    for item in items {
-        if let ScriptItem::Start = item {
-            count += 1;
-        }
-    }
-    count
 }
 
 impl<V: ValueKind> Sheet<V> {

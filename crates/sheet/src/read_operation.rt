@@ -45,7 +45,7 @@ fn head_fits(bytes: &[u8], at: usize, end: usize, kind: OperationKind) -> bool
     ensures { λ r. ⌜ r ≡ head-fits (now (bytes .entry)) at end kind ⌝ }
 {
     let count = bytes[at + 2] as usize;
-    kind.takes(count)
+    kind.counts(count)
         && bytes[at + 3] == 0
         && end - at >= 12 + 10 * count
         && (kind.takes_new() || number_at(bytes, at + 4, 8) == 0)

@@ -6,8 +6,8 @@ use native.Mathlib.Omega.{arith}
 use Rattle.std.proofs.shelf.Lists.{at-drop-more, at-drop-all}
 use Rattle.sheet.specs.declared.parts.ScriptItem.the-variants.{Start}
 use Rattle.sheet.specs.Reading.{starts}
-use Rattle.sheet.proofs.read.start_count.Needs.{in-Start, in-rest}
-use Rattle.sheet.proofs.read.start_count.Needs as need
+use Rattle.sheet.proofs.layout.start_count.Needs.{in-Start, in-rest}
+use Rattle.sheet.proofs.layout.start_count.Needs as need
 
 pub loop-item-again : need.loop-item-again
 loop-item-again c =

@@ -1,0 +1,106 @@
+-- Bytes put into an output: one put after another is one put of both.
+use mathlib.Core.Path.{_≡_, refl, sym, ap, _∙_}
+use mathlib.Core.List.{List, [], _∷_, _++_, map}
+use Prim.Native.Nat.{ℕ, zero, suc, _+_, _-_, _/_, _%_, _<_, _≤_}
+use native.Mathlib.Nat.{add-zero}
+use native.Mathlib.Omega.{arith}
+use lib.ListN.{length, set, getD, drop}
+use Rattle.std.proofs.shelf.Lists.{length-set, length-append, length-push, set-at, append-assoc, at-drop-more, at-drop-all}
+use Rattle.std.specs.Joined.{joined}
+use Rattle.sheet.specs.Bytes.{put, bytes-of, overwritten}
+use Rattle.sheet.specs.Puts.{Room, Puts}
+
+pub length-put : (out : List ℕ) (at : ℕ) (bs : List ℕ) → length (put out at bs) ≡ length out
+unfolding put
+length-put out at [] = refl
+length-put out at (b ∷ bs) = length-put (set out at b) (at + 1) bs ∙ length-set out at b
+
+pub put-none : (out : List ℕ) (at : ℕ) → put out at [] ≡ out
+unfolding put
+put-none out at = refl
+
+pub put-put : (out : List ℕ) (at : ℕ) (xs ys : List ℕ) → put (put out at xs) (at + length xs) ys ≡ put out at (xs ++ ys)
+unfolding put
+put-put out at [] ys = ap (λ n. put out n ys) (add-zero at)
+put-put out at (x ∷ xs) ys =
+    let e : at + suc (length xs) ≡ (at + 1) + length xs = omega arith in
+    ap (λ n. put (put (set out at x) (at + 1) xs) n ys) e ∙ put-put (set out at x) (at + 1) xs ys
+
+-- a number has as many bytes as it is given; none, and the first with the others
+pub length-bytes-of : (width n : ℕ) → length (bytes-of width n) ≡ width
+unfolding bytes-of
+length-bytes-of zero n = refl
+length-bytes-of (suc width) n = ap suc (length-bytes-of width (n / 256))
+
+pub put-no-bytes : (out : List ℕ) (at n : ℕ) → put out at (bytes-of 0 n) ≡ out
+unfolding put bytes-of
+put-no-bytes out at n = refl
+
+pub put-bytes-of : (out : List ℕ) (at left n : ℕ) → put out at (bytes-of (suc left) n) ≡ put (set out at (n % 256)) (at + 1) (bytes-of left (n / 256))
+unfolding put bytes-of
+put-bytes-of out at left n = refl
+
+-- one part after another
+pub then-puts : {out : List ℕ} {at : ℕ} {xs ys mid after : List ℕ} {middle next : ℕ} → Puts out at xs mid middle → Puts mid middle ys after next → Puts out at (xs ++ ys) after next
+then-puts {out} {at} {xs} {ys} {mid} {after} {middle} {next} p q = record {
+    leaves = q .leaves ∙ ap (λ o. put o middle ys) (p .leaves) ∙ ap (λ n. put (put out at xs) n ys) (p .ends) ∙ put-put out at xs ys;
+    ends = omega (arith, length-append xs ys) }
+
+-- where both parts have room, the first has room, and the second after it
+pub first-room : {out : List ℕ} {at : ℕ} (xs ys : List ℕ) → Room out at (xs ++ ys) → Room out at xs
+first-room {out} {at} xs ys h = record { holds = omega (arith, length-append xs ys) }
+
+pub then-room : {out : List ℕ} {at : ℕ} {xs : List ℕ} (ys : List ℕ) {mid : List ℕ} {middle : ℕ} → Puts out at xs mid middle → Room out at (xs ++ ys) → Room mid middle ys
+then-room {out} {at} {xs} ys {mid} {middle} p h = record { holds = omega (arith, length-append xs ys, ap length (p .leaves), length-put out at xs) }
+
+-- A loop that puts the bytes of each item. `Left` holds before item `i`: what is left, put there, makes
+-- the whole.
+module _ {X : Type 0} (f : X → List ℕ) (xs : List X) (start : List ℕ) (at : ℕ) where
+  abbrev pub Left : ℕ → List ℕ → ℕ → Type 0
+  Left i out next = (put out next (joined f (drop i xs)) ≡ put start at (joined f xs))
+    × (next + length (joined f (drop i xs)) ≡ at + length (joined f xs))
+
+  module _ (i : ℕ) (out : List ℕ) (next : ℕ) (l : Left i out next) where
+    pub left-all : length xs ≤ i → Puts start at (joined f xs) out next
+    left-all h =
+        let e = at-drop-all (joined f) xs i h in
+        record { leaves = sym (put-none out next) ∙ ap (put out next) (sym e) ∙ l .0; ends = omega (arith, l .1, ap length e) }
+
+    -- item `i` is `x`, with the bytes `bs`
+    module _ (h : i < length xs) (x : X) (is : x ≡ getD xs i x) (bs : List ℕ) (made : bs ≡ f x) where
+      left-here : joined f (drop i xs) ≡ bs ++ joined f (drop (i + 1) xs)
+      left-here = at-drop-more (joined f) xs i x h ∙ ap (λ y. f y ++ joined f (drop (i + 1) xs)) (sym is) ∙ ap (λ b. b ++ joined f (drop (i + 1) xs)) (sym made)
+
+      pub left-room : length out ≡ length start → Room start at (joined f xs) → Room out next bs
+      left-room same room = record { holds = omega (arith, l .1, ap length left-here, length-append bs (joined f (drop (i + 1) xs))) }
+
+      pub left-more : {after : List ℕ} {further : ℕ} → Puts out next bs after further → Left (i + 1) after further
+      left-more {after} {further} p =
+          let rest = joined f (drop (i + 1) xs) in
+          (ap (λ o. put o further rest) (p .leaves) ∙ ap (λ n. put (put out next bs) n rest) (p .ends) ∙ put-put out next bs rest ∙ ap (put out next) (sym left-here) ∙ l .0,
+           omega (arith, p .ends, l .1, ap length left-here, length-append bs rest))
+
+-- a byte, and bytes one by one
+pub byte-of : (b : ℕ) → b < 256 → bytes-of 1 b ≡ b ∷ []
+unfolding bytes-of
+byte-of b h = let e : b % 256 ≡ b = omega arith in ap (λ n. n ∷ []) e
+
+abbrev pub one-byte : ℕ → List ℕ
+one-byte b = b ∷ []
+
+pub joined-one : (bs : List ℕ) → joined one-byte bs ≡ bs
+joined-one [] = refl
+joined-one (b ∷ bs) = ap (λ r. b ∷ r) (joined-one bs)
+
+-- bytes put from the beginning on are the front of the output
+put-front : (front bs rest : List ℕ) (at : ℕ) → length front ≡ at → length bs ≤ length rest → put (front ++ rest) at bs ≡ front ++ (bs ++ drop (length bs) rest)
+unfolding put
+put-front front [] rest at e h = refl
+put-front front (b ∷ bs) [] at e h = absurd (omega arith)
+put-front front (b ∷ bs) (r ∷ rest) at e h =
+    ap (λ o. put o (at + 1) bs) (set-at front r rest b at e ∙ sym (append-assoc front (b ∷ []) rest))
+    ∙ put-front (front ++ b ∷ []) bs rest (at + 1) (length-push front b ∙ ap (λ n. n + 1) e) (omega arith)
+    ∙ append-assoc front (b ∷ []) (bs ++ drop (length bs) rest)
+
+pub put-over : (bs out : List ℕ) → length bs ≤ length out → put out 0 bs ≡ overwritten bs out
+put-over bs out h = put-front [] bs out 0 refl h

@@ -1,0 +1,25 @@
+// Writing a run sheet: nothing is written unless the whole sheet has its bytes and the output has room.
+ghost use mathlib.Core.Path.{_≡_};
+ghost use lib.ListN.{length};
+ghost use Rattle.sheet.specs.Parts.{parts-of};
+ghost use Rattle.sheet.specs.Writing.{write-answer, write-after};
+use crate::fault::SheetFault;
+use crate::fault::SheetRefusal;
+use crate::layout::layout;
+use crate::parts::Sheet;
+use crate::puts::put_sheet;
+use value::ValueKind;
+
+impl<V: ValueKind> Sheet<V> {
+    // Writes the sheet's bytes to the front of `out`, and returns how many they are.
+    pub fn write(&self, out: &mut [u8]) -> Result<usize, SheetFault>
+        ensures answer { λ r. ⌜ r ≡ write-answer (parts-of (now (self .entry))) (length (now (out .entry))) ⌝ }
+        ensures after { λ _. ⌜ now (out .exit) ≡ write-after (parts-of (now (self .entry))) coded number (now (out .entry)) ⌝ }
+    {
+        let end = layout(self)?;
+        if out.len() < end {
+            return Err(SheetFault { refusal: SheetRefusal::ShortOutput, place: end });
+        }
+        Ok(put_sheet(out, self, end))
+    }
+}
