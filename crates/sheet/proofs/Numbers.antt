@@ -1,13 +1,16 @@
 -- A number read from the highest byte down: one byte more.
 use mathlib.Core.Path.{_≡_, refl, ap, subst, _∙_}
-use mathlib.Core.List.{List}
+use mathlib.Core.List.{List, [], _∷_}
 use Prim.Native.Nat.{ℕ, zero, suc, _+_, _-_, _*_, _^_, _<_, _≤_}
 use native.Mathlib.Nat.{pow-succ', pow-le-pow-right, sub-self}
 use native.Mathlib.Omega.{arith}
+use mir.Facts.{fits-lt-pow}
+use mir.Syntax.{w8}
+use mir.Val.{Fits}
 use lib.Dec.{lit<}
 use lib.ListN.{length, getD, take, drop}
 use Rattle.std.proofs.shelf.Lists.{getD-drop, take-rest}
-use Rattle.sheet.specs.Bytes.{field}
+use Rattle.sheet.specs.Bytes.{field, AllBytes}
 
 -- two bytes, and a number that stands in the rest of a sheet
 pub field-two : (bytes : List ℕ) (at : ℕ) → field bytes at 2 ≡ getD bytes at 0 + getD bytes (at + 1) 0 * 256
@@ -58,3 +61,8 @@ module _ (bytes : List ℕ) (at width i : ℕ) (some : 0 < i) (inside : i ≤ wi
     let le : width - i ≤ 7 = omega arith in
     let p : 256 ^ (width - i) ≤ 256 ^ 7 = pow-le-pow-right (lit< tt) le in
     omega arith
+
+-- the elements of a slice of bytes are bytes
+pub all-bytes : (bytes : List ℕ) → ((i : ℕ) → Fits w8 (getD bytes i 0)) → AllBytes bytes
+all-bytes [] fits = tt
+all-bytes (b ∷ rest) fits = (fits-lt-pow (fits 0), all-bytes rest (λ i. fits (suc i)))

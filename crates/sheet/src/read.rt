@@ -4,9 +4,11 @@ ghost use mathlib.Core.Path.{_≡_};
 ghost use Prim.Native.Nat.{_≤_};
 ghost use lib.ListN.{length};
 ghost use Rattle.std.specs.Of.Vec.{vec-items};
+ghost use Rattle.std.specs.Vec.{made};
 ghost use Rattle.sheet.specs.Faults.{Reads};
 ghost use Rattle.sheet.specs.Parts.{op-of, parts-of};
 ghost use Rattle.sheet.specs.Reading.{operations-answer, read-answer};
+ghost use Rattle.sheet.specs.RoundTrip.{GivesBack};
 use crate::fault::ReadError;
 use crate::fault::ReadErrorFromFault;
 use crate::fault::ReadErrorFromRefused;
@@ -50,9 +52,10 @@ fn read_operations<V: ValueKind>(
 }
 
 impl<V: ValueKind> Sheet<V> {
-    // The sheet that the bytes hold, or why they hold none.
+    // The sheet that the bytes hold, or why they hold none. Writing the sheet gives the bytes back.
     pub fn read(heap: Global, bytes: &[u8]) -> Result<Sheet<V>, ReadError>
-        ensures { λ r. ⌜ Reads parts-of r (read-answer decoded (now (bytes .entry)) number) ⌝ }
+        ensures answer { λ r. ⌜ Reads parts-of r (read-answer decoded (now (bytes .entry)) number) ⌝ }
+        ensures returns { λ r. ⌜ made r (λ sheet. GivesBack coded number (parts-of sheet) (now (bytes .entry))) ⌝ }
     {
         let header = read_header(bytes, V::kind_number())?;
         let initial = read_values(heap, bytes, 24, header.locations as usize)?;

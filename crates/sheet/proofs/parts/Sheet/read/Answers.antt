@@ -7,18 +7,22 @@ use lib.ListN.{length}
 use Rattle.std.specs.Of.Vec.{vec-items, vec-len}
 use Rattle.std.specs.declared.result.Result.the-variants.{Ok, Err}
 use Rattle.std.proofs.shelf.Lists.{length-map}
+use Rattle.std.proofs.shelf.Results.{made-from-err}
 use Rattle.std.proofs.shelf.Ways.{tells}
 use Rattle.sheet.specs.Parts.{op-of}
 use Rattle.sheet.specs.Reading.{header-answer, values-answer, operations-answer, script-answer, starts}
 use Rattle.sheet.proofs.Exits.{exit-fault, exit-error}
 use Rattle.sheet.proofs.Whole.{header-refused, values-refused, operations-refused, script-refused, sheet-judged}
+use Rattle.sheet.proofs.Numbers.{all-bytes}
+use Rattle.sheet.proofs.WriteSheet.{read-then-write}
 use Rattle.sheet.proofs.parts.Sheet.read.Needs as need
 
 pub returns-in-Break-header : need.returns-in-Break-header
 returns-in-Break-header g c =
     let bytes = c .args .bytes .now in
     let refused = ap (header-answer bytes) (sym (c .kind-number .ensures)) ∙ sym (c .read-header .ensures .answer) ∙ c .in-Break-header .was tt in
-    exit-fault _ _ (c .from-residual .result) _ (c .from-residual .ensures .1) (header-refused (g .V·ValueKind .decoded) bytes (g .V·ValueKind .number) _ refused)
+    record { answer = exit-fault _ _ (c .from-residual .result) _ (c .from-residual .ensures .1) (header-refused (g .V·ValueKind .decoded) bytes (g .V·ValueKind .number) _ refused);
+      returns = made-from-err _ _ (c .from-residual .ensures .0) }
 
 pub read-values-requires : need.read-values-requires
 read-values-requires g c κs = c .in-Continue-header .ensures tt .placed .values
@@ -28,9 +32,10 @@ returns-in-Break-initial g c =
     let bytes = c .args .bytes .now in
     let h = c .in-Continue-header .header in
     let header = ap (header-answer bytes) (sym (c .kind-number .ensures)) ∙ sym (c .read-header .ensures .answer) ∙ c .in-Continue-header .was tt in
-    exit-error _ _ (c .from-residual-in-Break-initial .result) (values-answer (g .V·ValueKind .decoded) bytes 24 (h .locations)) _
-    (c .from-residual-in-Break-initial .ensures .1) (c .in-Break-initial .ensures tt)
-    (values-refused (g .V·ValueKind .decoded) bytes (g .V·ValueKind .number) h header)
+    record { answer = exit-error _ _ (c .from-residual-in-Break-initial .result) (values-answer (g .V·ValueKind .decoded) bytes 24 (h .locations)) _
+      (c .from-residual-in-Break-initial .ensures .1) (c .in-Break-initial .ensures tt)
+      (values-refused (g .V·ValueKind .decoded) bytes (g .V·ValueKind .number) h header);
+      returns = made-from-err _ _ (c .from-residual-in-Break-initial .ensures .0) }
 
 pub read-operations-requires : need.read-operations-requires
 read-operations-requires g c κs = let p = c .in-Continue-header .ensures tt .placed in record { before = p .before; inside = omega (arith, p .script-end) }
@@ -40,9 +45,10 @@ returns-in-Break-operations g c =
     let bytes = c .args .bytes .now in
     let h = c .in-Continue-header .header in
     let header = ap (header-answer bytes) (sym (c .kind-number .ensures)) ∙ sym (c .read-header .ensures .answer) ∙ c .in-Continue-header .was tt in
-    exit-error _ _ (c .from-residual-in-Break-operations .result) (operations-answer (g .V·ValueKind .decoded) bytes (h .script) 4096 (h .operations)) _
-    (c .from-residual-in-Break-operations .ensures .1) (c .in-Break-operations .ensures tt)
-    (operations-refused (g .V·ValueKind .decoded) bytes (g .V·ValueKind .number) h header _ (c .in-Continue-initial .ensures tt))
+    record { answer = exit-error _ _ (c .from-residual-in-Break-operations .result) (operations-answer (g .V·ValueKind .decoded) bytes (h .script) 4096 (h .operations)) _
+      (c .from-residual-in-Break-operations .ensures .1) (c .in-Break-operations .ensures tt)
+      (operations-refused (g .V·ValueKind .decoded) bytes (g .V·ValueKind .number) h header _ (c .in-Continue-initial .ensures tt));
+      returns = made-from-err _ _ (c .from-residual-in-Break-operations .ensures .0) }
 
 pub read-script-requires : need.read-script-requires
 read-script-requires g c κs = c .in-Continue-header .ensures tt .placed .script-end
@@ -52,9 +58,10 @@ returns-in-Break-script g c =
     let bytes = c .args .bytes .now in
     let h = c .in-Continue-header .header in
     let header = ap (header-answer bytes) (sym (c .kind-number .ensures)) ∙ sym (c .read-header .ensures .answer) ∙ c .in-Continue-header .was tt in
-    exit-error _ _ (c .from-residual-in-Break-script .result) (script-answer bytes (h .script) (h .items)) _
-    (c .from-residual-in-Break-script .ensures .1) (c .in-Break-script .ensures tt)
-    (script-refused (g .V·ValueKind .decoded) bytes (g .V·ValueKind .number) h header _ (c .in-Continue-initial .ensures tt) _ (c .in-Continue-operations .ensures tt))
+    record { answer = exit-error _ _ (c .from-residual-in-Break-script .result) (script-answer bytes (h .script) (h .items)) _
+      (c .from-residual-in-Break-script .ensures .1) (c .in-Break-script .ensures tt)
+      (script-refused (g .V·ValueKind .decoded) bytes (g .V·ValueKind .number) h header _ (c .in-Continue-initial .ensures tt) _ (c .in-Continue-operations .ensures tt));
+      returns = made-from-err _ _ (c .from-residual-in-Break-script .ensures .0) }
 
 pub returns-then-start-count-len : need.returns-then-start-count-len
 returns-then-start-count-len g c =
@@ -66,7 +73,8 @@ returns-then-start-count-len g c =
     let long : length (map op-of (vec-items ops)) ≡ c .len .result = length-map (vec-items ops) op-of ∙ sym (ops .ok .0) ∙ sym (c .len .ensures) in
     let differ = c .if-start-count-len .taken in
     let test : eqb (starts items) (length (map op-of (vec-items ops))) ≡ false = grind (arith, tells) in
-    sheet-judged (g .V·ValueKind .decoded) bytes (g .V·ValueKind .number) _ header _ (c .in-Continue-initial .ensures tt) _ (c .in-Continue-operations .ensures tt) _ _ (c .in-Continue-script .ensures tt) test
+    let judged = sheet-judged (g .V·ValueKind .decoded) bytes (g .V·ValueKind .number) _ header _ (c .in-Continue-initial .ensures tt) _ (c .in-Continue-operations .ensures tt) _ _ (c .in-Continue-script .ensures tt) test in
+    record { answer = judged; returns = tt }
 
 pub returns : need.returns
 returns g c =
@@ -78,4 +86,5 @@ returns g c =
     let long : length (map op-of (vec-items ops)) ≡ c .len .result = length-map (vec-items ops) op-of ∙ sym (ops .ok .0) ∙ sym (c .len .ensures) in
     let same = c .if-start-count-len .left in
     let test : eqb (starts items) (length (map op-of (vec-items ops))) ≡ true = grind (arith, tells) in
-    sheet-judged (g .V·ValueKind .decoded) bytes (g .V·ValueKind .number) _ header _ (c .in-Continue-initial .ensures tt) _ (c .in-Continue-operations .ensures tt) _ _ (c .in-Continue-script .ensures tt) test
+    let judged = sheet-judged (g .V·ValueKind .decoded) bytes (g .V·ValueKind .number) _ header _ (c .in-Continue-initial .ensures tt) _ (c .in-Continue-operations .ensures tt) _ _ (c .in-Continue-script .ensures tt) test in
+    record { answer = judged; returns = read-then-write (g .V·ValueKind .coded) (g .V·ValueKind .decoded) (g .V·ValueKind .number) (g .V·ValueKind·met .kept) bytes _ (all-bytes bytes (c .typed .bytes)) judged }
