@@ -34,8 +34,8 @@ counted-small Snapshot n e = grind (arith, tells)
 counted-small Kcss n e = grind (arith, tells)
 
 -- a test at one kind and count, known at equal ones
-pub counted-at : (r b : Bool) (k k′ : OperationKind) (n n′ : ℕ) → r ≡ counted k n → r ≡ b → k ≡ k′ → n ≡ n′ → counted k′ n′ ≡ b
-counted-at r b k k′ n n′ is was p q = sym (λ i. counted (p i) (q i)) ∙ sym is ∙ was
+pub counted-at : {r b : Bool} {k k′ : OperationKind} {n n′ : ℕ} → r ≡ counted k n → r ≡ b → k ≡ k′ → n ≡ n′ → counted k′ n′ ≡ b
+counted-at is was p q = sym (λ i. counted (p i) (q i)) ∙ sym is ∙ was
 
 pub ops-none : (V : Type 0) (at left : ℕ) → operations-end {V = V} at left [] ≡ Ok at
 unfolding operations-end
@@ -122,12 +122,12 @@ pub then-err : {X Y : Type 0} (r : Result X SheetFault) (next : X → Result Y S
 then-err r next f e = ap (λ t. then t next) e
 
 -- what the code found of its lists, at equal ones
-pub ops-at : {V : Type 0} (r w : Result ℕ SheetFault) (n n′ : ℕ) (os os′ : List (Operation V)) → r ≡ operations-end (24 + 8 * n) 4096 (map op-of os) → r ≡ w → n ≡ n′ → os ≡ os′
+pub ops-at : {V : Type 0} {r w : Result ℕ SheetFault} {n n′ : ℕ} {os os′ : List (Operation V)} → r ≡ operations-end (24 + 8 * n) 4096 (map op-of os) → r ≡ w → n ≡ n′ → os ≡ os′
   → operations-end (24 + 8 * n′) 4096 (map op-of os′) ≡ w
-ops-at r w n n′ os os′ is was p q = sym (λ i. operations-end (24 + 8 * p i) 4096 (map op-of (q i))) ∙ sym is ∙ was
+ops-at is was p q = sym (λ i. operations-end (24 + 8 * p i) 4096 (map op-of (q i))) ∙ sym is ∙ was
 
-pub items-at : (r w : Result ℕ SheetFault) (at : ℕ) (items items′ : List ScriptItem) → r ≡ script-end at items → r ≡ w → items ≡ items′ → script-end at items′ ≡ w
-items-at r w at items items′ is was q = sym (ap (script-end at) q) ∙ sym is ∙ was
+pub items-at : {r w : Result ℕ SheetFault} {items items′ : List ScriptItem} (at : ℕ) → r ≡ script-end at items → r ≡ w → items ≡ items′ → script-end at items′ ≡ w
+items-at at is was q = sym (ap (script-end at) q) ∙ sym is ∙ was
 
 -- the rules of the layout past the three counts, and its ways out
 module _ {V : Type 0} (p : Parts V) where
