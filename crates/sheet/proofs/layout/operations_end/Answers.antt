@@ -7,11 +7,11 @@ use lib.ListN.{length}
 use Rattle.std.proofs.shelf.Lists.{length-map, getD-map}
 use Rattle.sheet.specs.Parts.{op-of}
 use Rattle.sheet.proofs.Layouts.{counted-small, counted-at, too-many, miscounted, ops-on, ops-all}
-use Rattle.sheet.proofs.layout.operations_end.Needs.{then-i-ge4096·by·then-i-ge4096, then-i-ge4096·by·else-i-ge4096·then-not-counts}
+use Rattle.sheet.proofs.layout.operations_end.Needs.{then-i-ge-MOST-OPERATIONS·by·then-i-ge-MOST-OPERATIONS, then-i-ge-MOST-OPERATIONS·by·else-i-ge-MOST-OPERATIONS·then-not-counts}
 use Rattle.sheet.proofs.layout.operations_end.Needs as need
 
-pub returns-then-i-ge4096 : need.returns-then-i-ge4096
-returns-then-i-ge4096 g c =
+pub returns-then-i-ge-MOST-OPERATIONS : need.returns-then-i-ge-MOST-OPERATIONS
+returns-then-i-ge-MOST-OPERATIONS g c =
     let ops = c .args .operations .now in
     let i = c .loop-i .i in
     let item = c .index-operations-i .result in
@@ -19,9 +19,9 @@ returns-then-i-ge4096 g c =
     let is = ap op-of (c .index-operations-i .is) ∙ sym (getD-map op-of ops i item (op-of item) (c .loop-i-test .taken)) in
     let left = 4096 - i in
     record {
-      answer = sym (elim (c .then-i-ge4096 .came) [
-          then-i-ge4096·by·then-i-ge4096 w ↦ let e : left ≡ 0 = omega (arith, w .if-i-ge4096 .taken) in too-many (map op-of ops) i h (op-of item) is (c .loop-i .end) left e
-        | then-i-ge4096·by·else-i-ge4096·then-not-counts w ↦ miscounted (map op-of ops) i h (op-of item) is (c .loop-i .end) left
+      answer = sym (elim (c .then-i-ge-MOST-OPERATIONS .came) [
+          then-i-ge-MOST-OPERATIONS·by·then-i-ge-MOST-OPERATIONS w ↦ let e : left ≡ 0 = omega (arith, w .if-i-ge-MOST-OPERATIONS .taken) in too-many (map op-of ops) i h (op-of item) is (c .loop-i .end) left e
+        | then-i-ge-MOST-OPERATIONS·by·else-i-ge-MOST-OPERATIONS·then-not-counts w ↦ miscounted (map op-of ops) i h (op-of item) is (c .loop-i .end) left
             (counted-at (w .counts .ensures) (w .if-not-counts .taken) (w .kind .ensures) (c .count-count .ensures)) ])
         ∙ c .loop-i .inv .2;
       bound = tt;
