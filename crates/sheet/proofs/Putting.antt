@@ -1,7 +1,7 @@
 -- Bytes put into an output: one put after another is one put of both.
 use mathlib.Core.Path.{_≡_, refl, sym, ap, subst, _∙_}
 use mathlib.Core.List.{List, [], _∷_, _++_}
-use Prim.Native.Nat.{ℕ, zero, suc, _+_, _-_, _/_, _%_, _<_, _≤_}
+use Prim.Native.Nat.{ℕ, zero, suc, _+_, _/_, _%_, _<_, _≤_}
 use native.Mathlib.Nat.{add-zero}
 use native.Mathlib.Omega.{arith}
 use lib.ListN.{length, set, getD, drop}
@@ -50,8 +50,9 @@ room-as {out} {at} e r = subst (Room out at) e r
 -- one part after another
 pub then-puts : {out : List ℕ} {at : ℕ} {xs ys mid after : List ℕ} {middle next : ℕ} → Puts out at xs mid middle → Puts mid middle ys after next → Puts out at (xs ++ ys) after next
 then-puts {out} {at} {xs} {ys} {mid} {after} {middle} {next} p q = record {
-    leaves = q .leaves ∙ ap (λ o. put o middle ys) (p .leaves) ∙ ap (λ n. put (put out at xs) n ys) (p .ends) ∙ put-put out at xs ys;
-    ends = omega (arith, length-append xs ys) }
+  leaves = q .leaves ∙ ap (λ o. put o middle ys) (p .leaves) ∙ ap (λ n. put (put out at xs) n ys) (p .ends) ∙ put-put out at xs ys;
+  ends = omega (arith, length-append xs ys);
+}
 
 -- where both parts have room, the first has room, and the second after it
 pub first-room : {out : List ℕ} {at : ℕ} (xs ys : List ℕ) → Room out at (xs ++ ys) → Room out at xs
@@ -66,25 +67,25 @@ pub record Left {X : Type 0} (f : X → List ℕ) (xs : List X) (start : List �
   pub reaches : next + length (joined f (drop i xs)) ≡ at + length (joined f xs)
 
 pub left-all : {X : Type 0} {f : X → List ℕ} {xs : List X} {start : List ℕ} {at i : ℕ} {out : List ℕ} {next : ℕ} → Left f xs start at i out next
-  → length xs ≤ i → Puts start at (joined f xs) out next
+    → length xs ≤ i → Puts start at (joined f xs) out next
 left-all {f = f} {xs = xs} {i = i} {out = out} {next = next} l h =
     let e = at-drop-all (joined f) xs i h in
     record { leaves = sym (put-none out next) ∙ ap (put out next) (sym e) ∙ l .makes; ends = omega (arith, l .reaches, ap length e) }
 
 -- item `i` is `x`, with the bytes `bs`
 left-here : {X : Type 0} (f : X → List ℕ) (xs : List X) (i : ℕ) (x : X) (bs : List ℕ) → i < length xs → x ≡ getD xs i x → bs ≡ f x
-  → joined f (drop i xs) ≡ bs ++ joined f (drop (i + 1) xs)
+    → joined f (drop i xs) ≡ bs ++ joined f (drop (i + 1) xs)
 left-here f xs i x bs h is made =
     let rest = joined f (drop (i + 1) xs) in
     at-drop-more (joined f) xs i x h ∙ ap (λ y. f y ++ rest) (sym is) ∙ ap (λ b. b ++ rest) (sym made)
 
 pub left-room : {X : Type 0} {f : X → List ℕ} {xs : List X} {start : List ℕ} {at i : ℕ} {out : List ℕ} {next : ℕ} {x : X} {bs : List ℕ} → Left f xs start at i out next
-  → i < length xs → x ≡ getD xs i x → bs ≡ f x → length out ≡ length start → Room start at (joined f xs) → Room out next bs
+    → i < length xs → x ≡ getD xs i x → bs ≡ f x → length out ≡ length start → Room start at (joined f xs) → Room out next bs
 left-room {f = f} {xs = xs} {i = i} {x = x} {bs = bs} l h is made same room =
     record { holds = omega (arith, l .reaches, ap length (left-here f xs i x bs h is made), length-append bs (joined f (drop (i + 1) xs))) }
 
 pub left-more : {X : Type 0} {f : X → List ℕ} {xs : List X} {start : List ℕ} {at i : ℕ} {out : List ℕ} {next : ℕ} {x : X} {bs after : List ℕ} {further : ℕ} → Left f xs start at i out next
-  → i < length xs → x ≡ getD xs i x → bs ≡ f x → Puts out next bs after further → Left f xs start at (i + 1) after further
+    → i < length xs → x ≡ getD xs i x → bs ≡ f x → Puts out next bs after further → Left f xs start at (i + 1) after further
 left-more {f = f} {xs = xs} {i = i} {out = out} {next = next} {x = x} {bs = bs} {further = further} l h is made p =
     let rest = joined f (drop (i + 1) xs) in
     let e = left-here f xs i x bs h is made in

@@ -32,7 +32,10 @@ fn operations_end<V: ValueKind>(at: usize, operations: &[Operation<V>]) -> Resul
     for (i, operation) in operations.iter().enumerate() {
         let count = operation.action.count();
         if i >= MOST_OPERATIONS || !operation.action.kind().counts(count) {
-            return Err(SheetFault { refusal: SheetRefusal::WrongOperation, place: end });
+            return Err(SheetFault {
+                refusal: SheetRefusal::WrongOperation,
+                place: end,
+            });
         }
         end += 12 + 10 * count;
     }
@@ -46,7 +49,10 @@ fn script_end(at: usize, items: &[ScriptItem]) -> Result<usize, SheetFault>
 {
     for (i, item) in items.iter().enumerate() {
         if !item.is_writable() {
-            return Err(SheetFault { refusal: SheetRefusal::WrongScript, place: at + i });
+            return Err(SheetFault {
+                refusal: SheetRefusal::WrongScript,
+                place: at + i,
+            });
         }
     }
     Ok(at + items.len())
@@ -71,18 +77,30 @@ pub fn layout<V: ValueKind>(sheet: &Sheet<V>) -> Result<usize, SheetFault>
 {
     let locations = sheet.initial.len();
     if locations < 1 || locations > 256 {
-        return Err(SheetFault { refusal: SheetRefusal::WrongHeader, place: 2 });
+        return Err(SheetFault {
+            refusal: SheetRefusal::WrongHeader,
+            place: 2,
+        });
     }
     if sheet.processes < 1 || sheet.processes > 32 {
-        return Err(SheetFault { refusal: SheetRefusal::WrongHeader, place: 4 });
+        return Err(SheetFault {
+            refusal: SheetRefusal::WrongHeader,
+            place: 4,
+        });
     }
     if sheet.script.len() > 65_535 {
-        return Err(SheetFault { refusal: SheetRefusal::WrongHeader, place: 6 });
+        return Err(SheetFault {
+            refusal: SheetRefusal::WrongHeader,
+            place: 6,
+        });
     }
     let script_at = operations_end(HEADER_LENGTH + 8 * locations, &sheet.operations)?;
     let end = script_end(script_at, &sheet.script)?;
     if start_count(&sheet.script) != sheet.operations.len() {
-        return Err(SheetFault { refusal: SheetRefusal::WrongScript, place: end });
+        return Err(SheetFault {
+            refusal: SheetRefusal::WrongScript,
+            place: end,
+        });
     }
     Ok(end)
 }

@@ -9,6 +9,7 @@ mod layout;
 mod parts;
 mod puts;
 mod write;
+
 pub use fault::ReadError;
 pub use fault::ReadErrorFromAlloc;
 pub use fault::ReadErrorFromFault;

@@ -93,7 +93,12 @@ fn put_operands<V: ValueKind>(out: &mut [u8], at: usize, action: &Action<V>) -> 
     ensures { λ r. ⌜ Puts (now (out .entry)) at (operands-bytes coded (act-of (now (action .entry)))) (now (out .exit)) r ⌝ }
 {
     match action {
-        Action::Read(location) | Action::Ll(location) | Action::Sc { location, .. } => put_operand(out, at, *location, 0),
+        Action::Read(location) | Action::Ll(location) | Action::Sc { location, .. } => put_operand(
+            out,
+            at,
+            *location,
+            0,
+        ),
         Action::Snapshot(locations) => put_locations(out, at, locations),
         Action::Kcss { operands, .. } => put_expected(out, at, operands),
     }

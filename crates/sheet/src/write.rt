@@ -19,7 +19,10 @@ impl<V: ValueKind> Sheet<V> {
     {
         let end = layout(self)?;
         if out.len() < end {
-            return Err(SheetFault { refusal: SheetRefusal::ShortOutput, place: end });
+            return Err(SheetFault {
+                refusal: SheetRefusal::ShortOutput,
+                place: end,
+            });
         }
         Ok(put_sheet(out, self, end))
     }

@@ -1,4 +1,4 @@
-use mathlib.Core.Path.{_≡_, sym, ap, _∙_}
+use mathlib.Core.Path.{sym, ap, _∙_}
 use mathlib.Core.Logic.{_⊎_, inl, inr, ⊎-elim}
 use native.Mathlib.Omega.{arith}
 use Prim.Native.Nat.{_<_}
@@ -25,8 +25,9 @@ returns-then-sheet-lt1 g c =
     let p = parts-of (c .args .sheet .now) in
     let ok = c .args .sheet .now .initial .ok .0 in
     let h : (p .processes < 1) ⊎ (32 < p .processes) = elim (c .then-sheet-lt1 .came) [
-        then-sheet-lt1·by·then-sheet-lt1 w ↦ inl (w .if-sheet-lt1 .taken)
-      | then-sheet-lt1·by·else-sheet-lt1·then-sheet-gt32 w ↦ inr (w .if-sheet-gt32 .taken) ] in
+      | then-sheet-lt1·by·then-sheet-lt1 w ↦ inl (w .if-sheet-lt1 .taken)
+      | then-sheet-lt1·by·else-sheet-lt1·then-sheet-gt32 w ↦ inr (w .if-sheet-gt32 .taken)
+    ] in
     sym (wrong-processes p (omega arith) (omega arith) h)
 
 pub returns-then-len-gt65535 : need.returns-then-len-gt65535

@@ -20,10 +20,11 @@ returns-then-i-ge-MOST-OPERATIONS g c =
     let left = 4096 - i in
     record {
       answer = sym (elim (c .then-i-ge-MOST-OPERATIONS .came) [
-          then-i-ge-MOST-OPERATIONS·by·then-i-ge-MOST-OPERATIONS w ↦ let e : left ≡ 0 = omega (arith, w .if-i-ge-MOST-OPERATIONS .taken) in too-many (map op-of ops) i h (op-of item) is (c .loop-i .end) left e
+        | then-i-ge-MOST-OPERATIONS·by·then-i-ge-MOST-OPERATIONS w ↦ let e : left ≡ 0 = omega (arith, w .if-i-ge-MOST-OPERATIONS .taken) in too-many (map op-of ops) i h (op-of item) is (c .loop-i .end) left e
         | then-i-ge-MOST-OPERATIONS·by·else-i-ge-MOST-OPERATIONS·then-not-counts w ↦ miscounted (map op-of ops) i h (op-of item) is (c .loop-i .end) left
-            (counted-at (w .counts .ensures) (w .if-not-counts .taken) (w .kind .ensures) (c .count-count .ensures)) ])
-        ∙ c .loop-i .inv .2;
+            (counted-at (w .counts .ensures) (w .if-not-counts .taken) (w .kind .ensures) (c .count-count .ensures))
+      ])
+          ∙ c .loop-i .inv .2;
       bound = tt;
     }
 
@@ -44,11 +45,13 @@ loop-i-again g c =
     let h : i < length (map op-of ops) = omega (arith, length-map ops op-of) in
     let is = ap op-of (c .index-operations-i .is) ∙ sym (getD-map op-of ops i item (op-of item) (c .loop-i-test .taken)) in
     let small = counted-small (c .kind .result) (c .count-count .result) (sym (c .if-not-counts .ensures tt)) in
-    let e : 4096 - i ≡ suc (4096 - (i + 1)) = omega arith in
-    (omega arith, omega arith,
-     ops-on (map op-of ops) i h (op-of item) is (c .loop-i .end) (4096 - i) (4096 - (i + 1)) (c .count-count .result) e (c .count-count .ensures)
-       (counted-at (c .counts .ensures) (c .if-not-counts .left) (c .kind .ensures) (c .count-count .ensures))
-     ∙ c .loop-i .inv .2)
+    let e : 4096 - i ≡ suc (4096 - (i + 1)) = omega arith in (
+      omega arith,
+      omega arith,
+      ops-on (map op-of ops) i h (op-of item) is (c .loop-i .end) (4096 - i) (4096 - (i + 1)) (c .count-count .result) e (c .count-count .ensures)
+          (counted-at (c .counts .ensures) (c .if-not-counts .left) (c .kind .ensures) (c .count-count .ensures))
+          ∙ c .loop-i .inv .2,
+    )
 
 pub returns : need.returns
 returns g c =

@@ -25,7 +25,7 @@ loop-item-again c =
     left-more (c .loop-item .inv) h (sym (getD-map item-byte items i Start _ (c .loop-item-test .taken))) (byte-of (c .byte .result) (c .byte .ok) ∙ ap one-byte (c .byte .ensures)) (c .put-number-next .ensures)
 
 pub returns : need.returns
-returns c = 
+returns c =
     let items = c .args .items .now in
     let h : length (map item-byte items) ≤ c .loop-item .item-index = omega (arith, length-map items item-byte) in
     puts-as (joined-one (map item-byte items)) (left-all (c .loop-item .inv) h)
