@@ -1,11 +1,11 @@
 -- Where the parts of a sheet end, step by step, and what each refusal of the layout follows from.
 use mathlib.Core.Path.{_≡_, refl, sym, ap, _∙_}
-use mathlib.Core.Bool.{Bool, true, false, cond, _&&_}
+use mathlib.Core.Bool.{Bool, true, false}
 use mathlib.Core.List.{List, [], _∷_, map}
 use mathlib.Core.Logic.{_⊎_}
-use Prim.Native.Nat.{ℕ, zero, suc, _+_, _-_, _*_, _<_, _≤_}
+use Prim.Native.Nat.{ℕ, zero, suc, _+_, _*_, _<_, _≤_}
 use native.Mathlib.Omega.{arith}
-use lib.Dec.{eqb, leb, ltb}
+use lib.Dec.{eqb, leb}
 use lib.ListN.{length, getD, drop}
 use Rattle.std.proofs.shelf.Lists.{at-drop-more, at-drop-all}
 use Rattle.std.proofs.shelf.Ways.{tells}
@@ -17,11 +17,11 @@ use Rattle.sheet.specs.declared.fault.SheetRefusal.the-variants.{WrongHeader, 
 use Rattle.sheet.specs.declared.fault.SheetFault.{SheetFault}
 use Rattle.sheet.specs.declared.parts.Operation.{Operation}
 use Rattle.sheet.specs.declared.parts.ScriptItem.{ScriptItem}
-use Rattle.sheet.specs.declared.parts.ScriptItem.the-variants.{Start, Step}
+use Rattle.sheet.specs.declared.parts.ScriptItem.the-variants.{Start}
 use Rattle.sheet.specs.Kinds.{counted}
 use Rattle.sheet.specs.Faults.{fault, require, then}
 use Rattle.sheet.specs.Parts.{Op, Parts, op-of}
-use Rattle.sheet.specs.Format.{act-kind, act-count, size-by, sizes, operations-at, script-at, total}
+use Rattle.sheet.specs.Format.{act-kind, act-count, size-by, operations-at}
 use Rattle.sheet.specs.Reading.{within, starts}
 use Rattle.sheet.specs.Writing.{operations-end, writable, script-end, layout-answer}
 
@@ -34,8 +34,8 @@ counted-small Snapshot n e = grind (arith, tells)
 counted-small Kcss n e = grind (arith, tells)
 
 -- a test at one kind and count, known at equal ones
-pub counted-at : (r b : Bool) (k k′ : OperationKind) (n n′ : ℕ) → r ≡ counted k n → r ≡ b → k ≡ k′ → n ≡ n′ → counted k′ n′ ≡ b
-counted-at r b k k′ n n′ is was p q = sym (λ i. counted (p i) (q i)) ∙ sym is ∙ was
+pub counted-at : {r b : Bool} {k k′ : OperationKind} {n n′ : ℕ} → r ≡ counted k n → r ≡ b → k ≡ k′ → n ≡ n′ → counted k′ n′ ≡ b
+counted-at is was p q = sym (λ i. counted (p i) (q i)) ∙ sym is ∙ was
 
 pub ops-none : (V : Type 0) (at left : ℕ) → operations-end {V = V} at left [] ≡ Ok at
 unfolding operations-end
@@ -48,12 +48,12 @@ module _ {V : Type 0} where
   ops-full at o rest = refl
 
   pub ops-more : (at left : ℕ) (o : Op V) (rest : List (Op V)) → operations-end at (suc left) (o ∷ rest)
-    ≡ require (counted (act-kind (o .act)) (act-count (o .act))) (fault WrongOperation at) (operations-end (at + size-by (act-count (o .act))) left rest)
+      ≡ require (counted (act-kind (o .act)) (act-count (o .act))) (fault WrongOperation at) (operations-end (at + size-by (act-count (o .act))) left rest)
   unfolding operations-end
   ops-more at left o rest = refl
 
   ops-wrong : (at left : ℕ) (o : Op V) (rest : List (Op V)) → counted (act-kind (o .act)) (act-count (o .act)) ≡ false
-    → operations-end at left (o ∷ rest) ≡ Err (fault WrongOperation at)
+      → operations-end at left (o ∷ rest) ≡ Err (fault WrongOperation at)
   ops-wrong at zero o rest e = ops-full at o rest
   ops-wrong at (suc left) o rest e = ops-more at left o rest ∙ ap (λ b. require b (fault WrongOperation at) (operations-end (at + size-by (act-count (o .act))) left rest)) e
 
@@ -72,12 +72,12 @@ module _ {V : Type 0} where
     miscounted left e = here left ∙ ops-wrong end left o (drop (i + 1) os) e
 
     pub ops-on : (left fewer count : ℕ) → left ≡ suc fewer → count ≡ act-count (o .act) → counted (act-kind (o .act)) (act-count (o .act)) ≡ true
-      → operations-end (end + size-by count) fewer (drop (i + 1) os) ≡ operations-end end left (drop i os)
+        → operations-end (end + size-by count) fewer (drop (i + 1) os) ≡ operations-end end left (drop i os)
     ops-on left fewer count e q t =
         let rest = drop (i + 1) os in
         ap (λ n. operations-end (end + size-by n) fewer rest) q
         ∙ sym (here left ∙ ap (λ n. operations-end end n (o ∷ rest)) e ∙ ops-more end fewer o rest
-          ∙ ap (λ b. require b (fault WrongOperation end) (operations-end (end + size-by (act-count (o .act))) fewer rest)) t)
+        ∙ ap (λ b. require b (fault WrongOperation end) (operations-end (end + size-by (act-count (o .act))) fewer rest)) t)
 
 pub script-none : (at : ℕ) → script-end at [] ≡ Ok at
 unfolding script-end
@@ -94,7 +94,7 @@ script-all items i at h = at-drop-all (script-end at) items i h ∙ script-none 
 module _ (items : List ScriptItem) (i at : ℕ) (h : i < length items) (b : Bool) (is : b ≡ writable (getD items i Start)) where
   item-here : script-end at (drop i items) ≡ require b (fault WrongScript at) (script-end (at + 1) (drop (i + 1) items))
   item-here = at-drop-more (script-end at) items i Start h ∙ script-more at (getD items i Start) (drop (i + 1) items)
-    ∙ ap (λ t. require t (fault WrongScript at) (script-end (at + 1) (drop (i + 1) items))) (sym is)
+      ∙ ap (λ t. require t (fault WrongScript at) (script-end (at + 1) (drop (i + 1) items))) (sym is)
 
   pub item-wrong : b ≡ false → script-end at (drop i items) ≡ Err (fault WrongScript at)
   item-wrong e = item-here ∙ ap (λ t. require t (fault WrongScript at) (script-end (at + 1) (drop (i + 1) items))) e
@@ -122,12 +122,12 @@ pub then-err : {X Y : Type 0} (r : Result X SheetFault) (next : X → Result Y S
 then-err r next f e = ap (λ t. then t next) e
 
 -- what the code found of its lists, at equal ones
-pub ops-at : {V : Type 0} (r w : Result ℕ SheetFault) (n n′ : ℕ) (os os′ : List (Operation V)) → r ≡ operations-end (24 + 8 * n) 4096 (map op-of os) → r ≡ w → n ≡ n′ → os ≡ os′
-  → operations-end (24 + 8 * n′) 4096 (map op-of os′) ≡ w
-ops-at r w n n′ os os′ is was p q = sym (λ i. operations-end (24 + 8 * p i) 4096 (map op-of (q i))) ∙ sym is ∙ was
+pub ops-at : {V : Type 0} {r w : Result ℕ SheetFault} {n n′ : ℕ} {os os′ : List (Operation V)} → r ≡ operations-end (24 + 8 * n) 4096 (map op-of os) → r ≡ w → n ≡ n′ → os ≡ os′
+    → operations-end (24 + 8 * n′) 4096 (map op-of os′) ≡ w
+ops-at is was p q = sym (λ i. operations-end (24 + 8 * p i) 4096 (map op-of (q i))) ∙ sym is ∙ was
 
-pub items-at : (r w : Result ℕ SheetFault) (at : ℕ) (items items′ : List ScriptItem) → r ≡ script-end at items → r ≡ w → items ≡ items′ → script-end at items′ ≡ w
-items-at r w at items items′ is was q = sym (ap (script-end at) q) ∙ sym is ∙ was
+pub items-at : {r w : Result ℕ SheetFault} {items items′ : List ScriptItem} (at : ℕ) → r ≡ script-end at items → r ≡ w → items ≡ items′ → script-end at items′ ≡ w
+items-at at is was q = sym (ap (script-end at) q) ∙ sym is ∙ was
 
 -- the rules of the layout past the three counts, and its ways out
 module _ {V : Type 0} (p : Parts V) where
@@ -150,13 +150,13 @@ module _ {V : Type 0} (p : Parts V) where
       pub wrong-items : 65535 < length (p .script) → layout-answer p ≡ Err (fault WrongHeader 6)
       unfolding layout-answer
       wrong-items h = require-true _ _ _ (within-true 1 256 (length (p .initial)) l m) ∙ require-true _ _ _ (within-true 1 32 (p .processes) q r)
-        ∙ (let e : leb (length (p .script)) 65535 ≡ false = grind (arith, tells) in require-false _ _ _ e)
+          ∙ (let e : leb (length (p .script)) 65535 ≡ false = grind (arith, tells) in require-false _ _ _ e)
 
       module _ (n : length (p .script) ≤ 65535) where
         body : layout-answer p ≡ body-rule
         unfolding layout-answer
         body = require-true _ _ _ (within-true 1 256 (length (p .initial)) l m) ∙ require-true _ _ _ (within-true 1 32 (p .processes) q r)
-          ∙ (let e : leb (length (p .script)) 65535 ≡ true = grind (arith, tells) in require-true _ _ _ e)
+            ∙ (let e : leb (length (p .script)) 65535 ≡ true = grind (arith, tells) in require-true _ _ _ e)
 
         pub wrong-operation : (f : SheetFault) → operations-end (operations-at p) 4096 (p .operations) ≡ Err f → layout-answer p ≡ Err f
         wrong-operation f e = body ∙ then-err _ _ f e

@@ -1,7 +1,7 @@
 -- Bytes put into an output: one put after another is one put of both.
-use mathlib.Core.Path.{_≡_, refl, sym, ap, _∙_}
-use mathlib.Core.List.{List, [], _∷_, _++_, map}
-use Prim.Native.Nat.{ℕ, zero, suc, _+_, _-_, _/_, _%_, _<_, _≤_}
+use mathlib.Core.Path.{_≡_, refl, sym, ap, subst, _∙_}
+use mathlib.Core.List.{List, [], _∷_, _++_}
+use Prim.Native.Nat.{ℕ, zero, suc, _+_, _/_, _%_, _<_, _≤_}
 use native.Mathlib.Nat.{add-zero}
 use native.Mathlib.Omega.{arith}
 use lib.ListN.{length, set, getD, drop}
@@ -40,11 +40,19 @@ pub put-bytes-of : (out : List ℕ) (at left n : ℕ) → put out at (bytes-of (
 unfolding put bytes-of
 put-bytes-of out at left n = refl
 
+-- the same bytes
+pub puts-as : {out : List ℕ} {at : ℕ} {xs ys after : List ℕ} {next : ℕ} → xs ≡ ys → Puts out at xs after next → Puts out at ys after next
+puts-as {out} {at} e p = record { leaves = p .leaves ∙ ap (put out at) e; ends = p .ends ∙ ap (λ b. at + length b) e }
+
+pub room-as : {out : List ℕ} {at : ℕ} {xs ys : List ℕ} → xs ≡ ys → Room out at xs → Room out at ys
+room-as {out} {at} e r = subst (Room out at) e r
+
 -- one part after another
 pub then-puts : {out : List ℕ} {at : ℕ} {xs ys mid after : List ℕ} {middle next : ℕ} → Puts out at xs mid middle → Puts mid middle ys after next → Puts out at (xs ++ ys) after next
 then-puts {out} {at} {xs} {ys} {mid} {after} {middle} {next} p q = record {
-    leaves = q .leaves ∙ ap (λ o. put o middle ys) (p .leaves) ∙ ap (λ n. put (put out at xs) n ys) (p .ends) ∙ put-put out at xs ys;
-    ends = omega (arith, length-append xs ys) }
+  leaves = q .leaves ∙ ap (λ o. put o middle ys) (p .leaves) ∙ ap (λ n. put (put out at xs) n ys) (p .ends) ∙ put-put out at xs ys;
+  ends = omega (arith, length-append xs ys);
+}
 
 -- where both parts have room, the first has room, and the second after it
 pub first-room : {out : List ℕ} {at : ℕ} (xs ys : List ℕ) → Room out at (xs ++ ys) → Room out at xs
@@ -53,32 +61,38 @@ first-room {out} {at} xs ys h = record { holds = omega (arith, length-append xs 
 pub then-room : {out : List ℕ} {at : ℕ} {xs : List ℕ} (ys : List ℕ) {mid : List ℕ} {middle : ℕ} → Puts out at xs mid middle → Room out at (xs ++ ys) → Room mid middle ys
 then-room {out} {at} {xs} ys {mid} {middle} p h = record { holds = omega (arith, length-append xs ys, ap length (p .leaves), length-put out at xs) }
 
--- A loop that puts the bytes of each item. `Left` holds before item `i`: what is left, put there, makes
--- the whole.
-module _ {X : Type 0} (f : X → List ℕ) (xs : List X) (start : List ℕ) (at : ℕ) where
-  abbrev pub Left : ℕ → List ℕ → ℕ → Type 0
-  Left i out next = (put out next (joined f (drop i xs)) ≡ put start at (joined f xs))
-    × (next + length (joined f (drop i xs)) ≡ at + length (joined f xs))
+-- A loop that puts the bytes of each item, before item `i`: what is left, put there, makes the whole.
+pub record Left {X : Type 0} (f : X → List ℕ) (xs : List X) (start : List ℕ) (at i : ℕ) (out : List ℕ) (next : ℕ) : Type 0 where
+  pub makes : put out next (joined f (drop i xs)) ≡ put start at (joined f xs)
+  pub reaches : next + length (joined f (drop i xs)) ≡ at + length (joined f xs)
 
-  module _ (i : ℕ) (out : List ℕ) (next : ℕ) (l : Left i out next) where
-    pub left-all : length xs ≤ i → Puts start at (joined f xs) out next
-    left-all h =
-        let e = at-drop-all (joined f) xs i h in
-        record { leaves = sym (put-none out next) ∙ ap (put out next) (sym e) ∙ l .0; ends = omega (arith, l .1, ap length e) }
+pub left-all : {X : Type 0} {f : X → List ℕ} {xs : List X} {start : List ℕ} {at i : ℕ} {out : List ℕ} {next : ℕ} → Left f xs start at i out next
+    → length xs ≤ i → Puts start at (joined f xs) out next
+left-all {f = f} {xs = xs} {i = i} {out = out} {next = next} l h =
+    let e = at-drop-all (joined f) xs i h in
+    record { leaves = sym (put-none out next) ∙ ap (put out next) (sym e) ∙ l .makes; ends = omega (arith, l .reaches, ap length e) }
 
-    -- item `i` is `x`, with the bytes `bs`
-    module _ (h : i < length xs) (x : X) (is : x ≡ getD xs i x) (bs : List ℕ) (made : bs ≡ f x) where
-      left-here : joined f (drop i xs) ≡ bs ++ joined f (drop (i + 1) xs)
-      left-here = at-drop-more (joined f) xs i x h ∙ ap (λ y. f y ++ joined f (drop (i + 1) xs)) (sym is) ∙ ap (λ b. b ++ joined f (drop (i + 1) xs)) (sym made)
+-- item `i` is `x`, with the bytes `bs`
+left-here : {X : Type 0} (f : X → List ℕ) (xs : List X) (i : ℕ) (x : X) (bs : List ℕ) → i < length xs → x ≡ getD xs i x → bs ≡ f x
+    → joined f (drop i xs) ≡ bs ++ joined f (drop (i + 1) xs)
+left-here f xs i x bs h is made =
+    let rest = joined f (drop (i + 1) xs) in
+    at-drop-more (joined f) xs i x h ∙ ap (λ y. f y ++ rest) (sym is) ∙ ap (λ b. b ++ rest) (sym made)
 
-      pub left-room : length out ≡ length start → Room start at (joined f xs) → Room out next bs
-      left-room same room = record { holds = omega (arith, l .1, ap length left-here, length-append bs (joined f (drop (i + 1) xs))) }
+pub left-room : {X : Type 0} {f : X → List ℕ} {xs : List X} {start : List ℕ} {at i : ℕ} {out : List ℕ} {next : ℕ} {x : X} {bs : List ℕ} → Left f xs start at i out next
+    → i < length xs → x ≡ getD xs i x → bs ≡ f x → length out ≡ length start → Room start at (joined f xs) → Room out next bs
+left-room {f = f} {xs = xs} {i = i} {x = x} {bs = bs} l h is made same room =
+    record { holds = omega (arith, l .reaches, ap length (left-here f xs i x bs h is made), length-append bs (joined f (drop (i + 1) xs))) }
 
-      pub left-more : {after : List ℕ} {further : ℕ} → Puts out next bs after further → Left (i + 1) after further
-      left-more {after} {further} p =
-          let rest = joined f (drop (i + 1) xs) in
-          (ap (λ o. put o further rest) (p .leaves) ∙ ap (λ n. put (put out next bs) n rest) (p .ends) ∙ put-put out next bs rest ∙ ap (put out next) (sym left-here) ∙ l .0,
-           omega (arith, p .ends, l .1, ap length left-here, length-append bs rest))
+pub left-more : {X : Type 0} {f : X → List ℕ} {xs : List X} {start : List ℕ} {at i : ℕ} {out : List ℕ} {next : ℕ} {x : X} {bs after : List ℕ} {further : ℕ} → Left f xs start at i out next
+    → i < length xs → x ≡ getD xs i x → bs ≡ f x → Puts out next bs after further → Left f xs start at (i + 1) after further
+left-more {f = f} {xs = xs} {i = i} {out = out} {next = next} {x = x} {bs = bs} {further = further} l h is made p =
+    let rest = joined f (drop (i + 1) xs) in
+    let e = left-here f xs i x bs h is made in
+    record {
+      makes = ap (λ o. put o further rest) (p .leaves) ∙ ap (λ n. put (put out next bs) n rest) (p .ends) ∙ put-put out next bs rest ∙ ap (put out next) (sym e) ∙ l .makes;
+      reaches = omega (arith, p .ends, l .reaches, ap length e, length-append bs rest);
+    }
 
 -- a byte, and bytes one by one
 pub byte-of : (b : ℕ) → b < 256 → bytes-of 1 b ≡ b ∷ []

@@ -17,8 +17,8 @@ use Rattle.sheet.specs.declared.parts.Operation.{Operation}
 use Rattle.sheet.specs.declared.parts.ScriptItem.{ScriptItem}
 use Rattle.sheet.specs.Bytes.{overwritten}
 use Rattle.sheet.specs.Faults.{fault, require, then}
-use Rattle.sheet.specs.Parts.{Op, Parts, op-of, act-of}
-use Rattle.sheet.specs.Format.{act-count, size-by, sizes, operations-at, script-at, total, sheet-bytes}
+use Rattle.sheet.specs.Parts.{Op, Parts, op-of}
+use Rattle.sheet.specs.Format.{act-count, size-by, sizes, operations-at, total, sheet-bytes}
 use Rattle.sheet.specs.Puts.{Small}
 use Rattle.sheet.specs.Reading.{within, starts}
 use Rattle.sheet.specs.Writing.{operations-end, script-end, layout-answer, write-answer, write-after}

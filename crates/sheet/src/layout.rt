@@ -1,4 +1,5 @@
-// What writing refuses before it writes a byte, and where the parts of a sheet end.
+// What writing refuses before it writes a byte, in the order in which reading would meet it, and where the
+// parts of a sheet end.
 ghost use mathlib.Core.List.{map};
 ghost use mathlib.Core.Path.{_≡_};
 ghost use Prim.Native.Nat.{_+_, _*_, _≤_};
@@ -14,6 +15,12 @@ use crate::parts::ScriptItem;
 use crate::parts::Sheet;
 use value::ValueKind;
 
+// The header comes first, and the values right after it.
+pub const HEADER_LENGTH: usize = 24;
+
+// A sheet has at most so many operations.
+const MOST_OPERATIONS: usize = 4096;
+
 // Where operations that begin at `at` end. A count that is not of its kind, or one operation too many,
 // is refused where that operation begins.
 fn operations_end<V: ValueKind>(at: usize, operations: &[Operation<V>]) -> Result<usize, SheetFault>
@@ -24,8 +31,11 @@ fn operations_end<V: ValueKind>(at: usize, operations: &[Operation<V>]) -> Resul
     let mut end = at;
     for (i, operation) in operations.iter().enumerate() {
         let count = operation.action.count();
-        if i >= 4096 || !operation.action.kind().counts(count) {
-            return Err(SheetFault { refusal: SheetRefusal::WrongOperation, place: end });
+        if i >= MOST_OPERATIONS || !operation.action.kind().counts(count) {
+            return Err(SheetFault {
+                refusal: SheetRefusal::WrongOperation,
+                place: end,
+            });
         }
         end += 12 + 10 * count;
     }
@@ -39,7 +49,10 @@ fn script_end(at: usize, items: &[ScriptItem]) -> Result<usize, SheetFault>
 {
     for (i, item) in items.iter().enumerate() {
         if !item.is_writable() {
-            return Err(SheetFault { refusal: SheetRefusal::WrongScript, place: at + i });
+            return Err(SheetFault {
+                refusal: SheetRefusal::WrongScript,
+                place: at + i,
+            });
         }
     }
     Ok(at + items.len())
@@ -64,18 +77,30 @@ pub fn layout<V: ValueKind>(sheet: &Sheet<V>) -> Result<usize, SheetFault>
 {
     let locations = sheet.initial.len();
     if locations < 1 || locations > 256 {
-        return Err(SheetFault { refusal: SheetRefusal::WrongHeader, place: 2 });
+        return Err(SheetFault {
+            refusal: SheetRefusal::WrongHeader,
+            place: 2,
+        });
     }
     if sheet.processes < 1 || sheet.processes > 32 {
-        return Err(SheetFault { refusal: SheetRefusal::WrongHeader, place: 4 });
+        return Err(SheetFault {
+            refusal: SheetRefusal::WrongHeader,
+            place: 4,
+        });
     }
     if sheet.script.len() > 65_535 {
-        return Err(SheetFault { refusal: SheetRefusal::WrongHeader, place: 6 });
+        return Err(SheetFault {
+            refusal: SheetRefusal::WrongHeader,
+            place: 6,
+        });
     }
-    let script_at = operations_end(24 + 8 * locations, &sheet.operations)?;
+    let script_at = operations_end(HEADER_LENGTH + 8 * locations, &sheet.operations)?;
     let end = script_end(script_at, &sheet.script)?;
     if start_count(&sheet.script) != sheet.operations.len() {
-        return Err(SheetFault { refusal: SheetRefusal::WrongScript, place: end });
+        return Err(SheetFault {
+            refusal: SheetRefusal::WrongScript,
+            place: end,
+        });
     }
     Ok(end)
 }

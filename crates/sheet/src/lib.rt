@@ -15,6 +15,7 @@ mod read_lists;
 mod read_operation;
 mod trips;
 mod write;
+
 pub use fault::ReadError;
 pub use fault::ReadErrorFromAlloc;
 pub use fault::ReadErrorFromFault;

@@ -9,6 +9,7 @@ ghost use Rattle.sheet.specs.Bytes.{bytes-of};
 ghost use Rattle.sheet.specs.Format.{operand-bytes, item-byte, expected-bytes, operands-bytes, op-bytes, value-bytes, act-count, header-bytes, sheet-bytes, total};
 ghost use Rattle.sheet.specs.Parts.{act-of, op-of, parts-of};
 ghost use Rattle.sheet.specs.Puts.{Room, Puts, Small, field-bytes};
+use crate::layout::HEADER_LENGTH;
 use crate::parts::Action;
 use crate::parts::Operand;
 use crate::parts::Operation;
@@ -62,6 +63,7 @@ fn put_operand(out: &mut [u8], at: usize, location: u16, code: u64) -> usize
     put_number(out, next, 8, code)
 }
 
+// Locations, each with no expected code.
 fn put_locations(out: &mut [u8], at: usize, locations: &[u16]) -> usize
     requires { ⌜ Room (now out) at (joined (λ a. operand-bytes a 0) (now locations)) ⌝ }
     ensures { λ r. ⌜ Puts (now (out .entry)) at (joined (λ a. operand-bytes a 0) (now (locations .entry))) (now (out .exit)) r ⌝ }
@@ -73,6 +75,7 @@ fn put_locations(out: &mut [u8], at: usize, locations: &[u16]) -> usize
     next
 }
 
+// Locations, each with the code of its expected value.
 fn put_expected<V: ValueKind>(out: &mut [u8], at: usize, operands: &[Operand<V>]) -> usize
     requires { ⌜ Room (now out) at (joined (expected-bytes coded) (now operands)) ⌝ }
     ensures { λ r. ⌜ Puts (now (out .entry)) at (joined (expected-bytes coded) (now (operands .entry))) (now (out .exit)) r ⌝ }
@@ -84,13 +87,18 @@ fn put_expected<V: ValueKind>(out: &mut [u8], at: usize, operands: &[Operand<V>]
     next
 }
 
-// The locations that an action names, each with the code that is expected there.
+// The locations that an action names, with the codes that it expects there.
 fn put_operands<V: ValueKind>(out: &mut [u8], at: usize, action: &Action<V>) -> usize
     requires { ⌜ Room (now out) at (operands-bytes coded (act-of (now action))) ⌝ }
     ensures { λ r. ⌜ Puts (now (out .entry)) at (operands-bytes coded (act-of (now (action .entry)))) (now (out .exit)) r ⌝ }
 {
     match action {
-        Action::Read(location) | Action::Ll(location) | Action::Sc { location, .. } => put_operand(out, at, *location, 0),
+        Action::Read(location) | Action::Ll(location) | Action::Sc { location, .. } => put_operand(
+            out,
+            at,
+            *location,
+            0,
+        ),
         Action::Snapshot(locations) => put_locations(out, at, locations),
         Action::Kcss { operands, .. } => put_expected(out, at, operands),
     }
@@ -114,6 +122,7 @@ fn put_operation<V: ValueKind>(out: &mut [u8], at: usize, operation: &Operation<
     put_operands(out, next, action)
 }
 
+// The operations one after another.
 fn put_operations<V: ValueKind>(out: &mut [u8], at: usize, operations: &[Operation<V>]) -> usize
     requires room { ⌜ Room (now out) at (joined (op-bytes coded) (map op-of (now operations))) ⌝ }
     requires small { ⌜ Small (now operations) ⌝ }
@@ -152,8 +161,8 @@ fn put_header<V: ValueKind>(out: &mut [u8], sheet: &Sheet<V>, end: usize) -> usi
         (2, locations as u64),
         (2, sheet.processes as u64),
         (2, items as u64),
-        (4, 24),
-        (4, (24 + 8 * locations) as u64),
+        (4, HEADER_LENGTH as u64),
+        (4, (HEADER_LENGTH + 8 * locations) as u64),
         (4, (end - items) as u64),
         (4, end as u64),
     ];

@@ -1,4 +1,5 @@
-// Writing a run sheet: nothing is written unless the whole sheet has its bytes and the output has room.
+// Writing a run sheet. Every refusal comes before the first byte is written, so that an output is either
+// left as it was or has the whole sheet at its front.
 ghost use mathlib.Core.Path.{_≡_};
 ghost use lib.ListN.{length};
 ghost use Rattle.sheet.specs.Parts.{parts-of};
@@ -18,7 +19,10 @@ impl<V: ValueKind> Sheet<V> {
     {
         let end = layout(self)?;
         if out.len() < end {
-            return Err(SheetFault { refusal: SheetRefusal::ShortOutput, place: end });
+            return Err(SheetFault {
+                refusal: SheetRefusal::ShortOutput,
+                place: end,
+            });
         }
         Ok(put_sheet(out, self, end))
     }

@@ -2,35 +2,36 @@ use mathlib.Core.Path.{refl, sym, ap, subst, _∙_}
 use mathlib.Core.List.{map}
 use Prim.Native.Nat.{_<_, _≤_}
 use native.Mathlib.Omega.{arith}
-use lib.ListN.{length, getD}
+use lib.ListN.{length}
 use Rattle.std.proofs.shelf.Lists.{length-map, getD-map}
-use Rattle.sheet.specs.Format.{op-bytes, act-count}
+use Rattle.sheet.specs.Format.{act-count}
 use Rattle.sheet.specs.Parts.{act-of, op-of}
 use Rattle.sheet.proofs.Putting.{left-room, left-more, left-all}
 use Rattle.sheet.proofs.puts.put_operations.Needs as need
 
 pub put-operation-next-requires : need.put-operation-next-requires
 put-operation-next-requires g c κs =
-    let item = c .operation-item .result in
     let ops = c .args .operations .now in
     let i = c .loop-operation .operation-index in
+    let item = c .operation-item .result in
     let h : i < length (map op-of ops) = omega (arith, length-map ops op-of) in
+    let is = ap op-of (c .operation-item .is) ∙ sym (getD-map op-of ops i item (op-of item) (c .loop-operation-test .taken)) in
     record {
-      room = left-room (op-bytes (g .V·ValueKind .coded)) (map op-of ops) (c .args .out .now) (c .args .at) i (c .loop-operation .out) (c .loop-operation .next) (c .loop-operation .inv) h (op-of item) (ap op-of (c .operation-item .is) ∙ sym (getD-map op-of ops i item (op-of item) (c .loop-operation-test .taken))) (op-bytes (g .V·ValueKind .coded) (op-of item)) refl (c .loop-operation .kept .out) (c .pre .room);
+      room = left-room (c .loop-operation .inv) h is refl (c .loop-operation .kept .out) (c .pre .room);
       small = subst (λ o. act-count (act-of (o .action)) < 256) (sym (c .operation-item .is)) (c .pre .small i item (c .loop-operation-test .taken));
     }
 
 pub loop-operation-again : need.loop-operation-again
 loop-operation-again g c =
-    let item = c .operation-item .result in
     let ops = c .args .operations .now in
     let i = c .loop-operation .operation-index in
+    let item = c .operation-item .result in
     let h : i < length (map op-of ops) = omega (arith, length-map ops op-of) in
-    left-more (op-bytes (g .V·ValueKind .coded)) (map op-of ops) (c .args .out .now) (c .args .at) i (c .loop-operation .out) (c .loop-operation .next) (c .loop-operation .inv) h (op-of item) (ap op-of (c .operation-item .is) ∙ sym (getD-map op-of ops i item (op-of item) (c .loop-operation-test .taken))) (op-bytes (g .V·ValueKind .coded) (op-of item)) refl (c .put-operation-next .ensures)
+    let is = ap op-of (c .operation-item .is) ∙ sym (getD-map op-of ops i item (op-of item) (c .loop-operation-test .taken)) in
+    left-more (c .loop-operation .inv) h is refl (c .put-operation-next .ensures)
 
 pub returns : need.returns
 returns g c =
     let ops = c .args .operations .now in
-    let i = c .loop-operation .operation-index in
-    let h : length (map op-of ops) ≤ i = omega (arith, length-map ops op-of) in
-    left-all (op-bytes (g .V·ValueKind .coded)) (map op-of ops) (c .args .out .now) (c .args .at) i (c .loop-operation .out) (c .loop-operation .next) (c .loop-operation .inv) h
+    let h : length (map op-of ops) ≤ c .loop-operation .operation-index = omega (arith, length-map ops op-of) in
+    left-all (c .loop-operation .inv) h

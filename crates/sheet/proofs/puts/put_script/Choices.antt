@@ -1,4 +1,4 @@
-use mathlib.Core.List.{List, [], _∷_, map}
+use mathlib.Core.List.{map}
 use Rattle.sheet.specs.Format.{item-byte}
 use Rattle.sheet.proofs.Putting.{Left, one-byte}
 use Rattle.sheet.proofs.puts.put_script.Given as given
