@@ -1,0 +1,4 @@
+pub mod Cells
+pub mod Faults
+pub mod Rules
+pub mod Words

@@ -1,0 +1,42 @@
+// Why a memory refuses, and where: the faults of layer 1.
+// Uses nothing.
+ghost use mathlib.Core.Path.{_≡_};
+ghost use Rattle.memory.specs.Faults.{memory-layer, refusal-number};
+
+#[derive(Clone, Copy)]
+pub enum MemoryRefusal {
+    // The memory has no such cell.
+    NoCell = 1,
+    // The cell does not fit the memory's limits.
+    Unfit = 2,
+}
+
+// A refusal and its place: the index of the cell, or 0.
+#[derive(Clone, Copy)]
+pub struct MemoryFault {
+    pub refusal: MemoryRefusal,
+    pub place: usize,
+}
+
+impl MemoryFault {
+    // The layer of memories.
+    pub fn layer(&self) -> u8
+        ensures { λ r. ⌜ r ≡ memory-layer ⌝ }
+    {
+        1
+    }
+
+    // The number of the refusal.
+    pub fn number(&self) -> u8
+        ensures { λ r. ⌜ r ≡ refusal-number (now (self .entry) .refusal) ⌝ }
+    {
+        self.refusal as u8
+    }
+
+    // Where the refusal was met.
+    pub fn place(&self) -> usize
+        ensures { λ r. ⌜ r ≡ now (self .entry) .place ⌝ }
+    {
+        self.place
+    }
+}

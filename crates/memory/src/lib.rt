@@ -1,0 +1,23 @@
+// Memories: lists of cells with limits, in five forms that keep the same rules.
+// Uses the value kinds.
+mod cell;
+mod fault;
+mod interface;
+mod limits;
+mod open;
+mod packed;
+pub use cell::Cell;
+pub use cell::CellClone;
+pub use cell::TaggedId;
+pub use cell::same_cell;
+pub use fault::MemoryFault;
+pub use fault::MemoryRefusal;
+pub use interface::Memory;
+pub use limits::Limits;
+pub use limits::cell_fits;
+pub use open::OpenIsMemory;
+pub use open::OpenMemory;
+pub use packed::PackedIsMemory;
+pub use packed::PackedMemory;
+pub use packed::pack;
+pub use packed::unpack;
