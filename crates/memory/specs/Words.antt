@@ -43,7 +43,7 @@ stored-words (Err _) words i word = words
 
 -- A CAS that says yes writes word i, and no other word changes; a no or a refusal changes none.
 abbrev pub swapped-words : Result Bool MemoryFault → List ℕ → ℕ → ℕ → List ℕ
-swapped-words (Ok yes) words i word = cond yes (set words i word) words
+swapped-words (Ok said) words i word = cond said (set words i word) words
 swapped-words (Err _) words i word = words
 
 -- Packing loses nothing: a cell that fits comes back from its word, which has 64 bits.
