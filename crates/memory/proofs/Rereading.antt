@@ -25,7 +25,8 @@ written cells i c h =
     record {
       at = load-yes (set cells i c) i (omega arith) ∙ ap Ok (getD-set-same cells i c id-zero h);
       elsewhere = λ j other. let e = getD-set-other cells i j c id-zero other in grind (arith, tells);
-      as-long = n }
+      as-long = n;
+    }
 
 -- what is the same is equal, and the other way round
 module _ {V : Type 0} (code : V → ℕ) (decoded : ℕ → Option V) (returned : (v : V) → decoded (code v) ≡ Some v) where
@@ -62,11 +63,11 @@ module _ {V : Type 0} (code : V → ℕ) (decoded : ℕ → Option V) (returned 
         let h = heard false e in
         let y = is-after ∙ cas-no code limits cells i new (h .0) (h .1) old (h .2) .1 in
         let differs : load-answer cells i ≡ Ok old → ⊥ = λ p.
-            let q : Ok (cell-at cells i) ≡ Ok old = sym (load-yes cells i (h .0)) ∙ p in
-            let x : cell-at cells i ≡ old = cc in
-            let b : true ≡ false = sym (same-self old) ∙ ap (λ z. same code z old) (sym x) ∙ h .2 in
-            let z : _≡_ {A = ℕ} 0 1 = cc in
-            omega arith in
+        let q : Ok (cell-at cells i) ≡ Ok old = sym (load-yes cells i (h .0)) ∙ p in
+        let x : cell-at cells i ≡ old = cc in
+        let b : true ≡ false = sym (same-self old) ∙ ap (λ z. same code z old) (sym x) ∙ h .2 in
+        let z : _≡_ {A = ℕ} 0 1 = cc in
+        omega arith in
         (differs, ap (λ cs. load-answer cs i) (sym y) ∙ sym l, y)
 
     -- what is found after it

@@ -70,15 +70,17 @@ module _ {V : Type 0} (xs ys : List (Cell V)) where
           let low = cas-told code l xs i c h (fits-front code l m c fit) old in
           let all = cas-told code (smaller-limits l m) (first-cells (xs ++ ys)) i c inside fit old in
           let e = get-front h in
-          let f = set-front c h in
-          (low .0 ∙ ap (λ x. Ok (same code x old)) (sym e) ∙ sym (all .0),
-           ap (λ x. first-cells (x ++ ys)) (low .1) ∙ at-cond (λ x. first-cells (x ++ ys)) (same code (cell-at xs i) old) (set xs i c) xs ∙ ap (λ x. cond (same code (cell-at xs i) old) x (first-cells (xs ++ ys))) f ∙ ap (λ x. cond (same code x old) (set (first-cells (xs ++ ys)) i c) (first-cells (xs ++ ys))) (sym e) ∙ sym (all .1))
+          let f = set-front c h in (
+            low .0 ∙ ap (λ x. Ok (same code x old)) (sym e) ∙ sym (all .0),
+            ap (λ x. first-cells (x ++ ys)) (low .1) ∙ at-cond (λ x. first-cells (x ++ ys)) (same code (cell-at xs i) old) (set xs i c) xs ∙ ap (λ x. cond (same code (cell-at xs i) old) x (first-cells (xs ++ ys))) f ∙ ap (λ x. cond (same code x old) (set (first-cells (xs ++ ys)) i c) (first-cells (xs ++ ys))) (sym e) ∙ sym (all .1),
+          )
 
       pub cas-back : (old : Cell V) → length xs ≤ i → (cas-answer code m ys (i - length xs) old c ≡ cas-answer code (smaller-limits l m) (first-cells (xs ++ ys)) i old c) × (first-cells (xs ++ cas-after code m ys (i - length xs) old c) ≡ cas-after code (smaller-limits l m) (first-cells (xs ++ ys)) i old c)
       cas-back old h =
           let low = cas-told code m ys (i - length xs) c (omega (arith, spliced-length)) (fits-back code l m c fit) old in
           let all = cas-told code (smaller-limits l m) (first-cells (xs ++ ys)) i c inside fit old in
           let e = get-back h in
-          let f = set-back c h in
-          (low .0 ∙ ap (λ x. Ok (same code x old)) (sym e) ∙ sym (all .0),
-           ap (λ x. first-cells (xs ++ x)) (low .1) ∙ at-cond (λ x. first-cells (xs ++ x)) (same code (cell-at ys (i - length xs)) old) (set ys (i - length xs) c) ys ∙ ap (λ x. cond (same code (cell-at ys (i - length xs)) old) x (first-cells (xs ++ ys))) f ∙ ap (λ x. cond (same code x old) (set (first-cells (xs ++ ys)) i c) (first-cells (xs ++ ys))) (sym e) ∙ sym (all .1))
+          let f = set-back c h in (
+            low .0 ∙ ap (λ x. Ok (same code x old)) (sym e) ∙ sym (all .0),
+            ap (λ x. first-cells (xs ++ x)) (low .1) ∙ at-cond (λ x. first-cells (xs ++ x)) (same code (cell-at ys (i - length xs)) old) (set ys (i - length xs) c) ys ∙ ap (λ x. cond (same code (cell-at ys (i - length xs)) old) x (first-cells (xs ++ ys))) f ∙ ap (λ x. cond (same code x old) (set (first-cells (xs ++ ys)) i c) (first-cells (xs ++ ys))) (sym e) ∙ sym (all .1),
+          )

@@ -12,9 +12,9 @@ use Rattle.std.specs.declared.result.Result.the-variants.{Ok, Err}
 use Rattle.memory.specs.declared.cell.Cell.{Cell}
 use Rattle.memory.specs.declared.cell.Cell.the-variants.{Value, Id}
 use Rattle.memory.specs.declared.limits.Limits.{Limits}
-use Rattle.memory.specs.declared.fault.MemoryRefusal.the-variants.{NoCell, Unfit}
 use Rattle.memory.specs.declared.fault.MemoryFault.{MemoryFault}
 use Rattle.memory.specs.Cells.{same}
+use Rattle.memory.specs.Faults.{no-cell, unfit}
 
 -- The tagged id (0, 0).
 abbrev pub id-zero : {V : Type 0} → Cell V
@@ -46,14 +46,6 @@ first-cells table = take 65535 table
 pub first-few : {V : Type 0} (table : List (Cell V)) → length (first-cells table) ≤ 65535
 unfolding first-cells
 first-few table = le-trans (le-of-eq (length-take 65535 table)) (min-le-left 65535 (length table))
-
--- Refusal 1: no cell i. The place is i.
-abbrev pub no-cell : ℕ → MemoryFault
-no-cell i = record { refusal = NoCell; place = i }
-
--- Refusal 2: the cell does not fit. The place is i, and 0 for Fits.
-abbrev pub unfit : ℕ → MemoryFault
-unfit i = record { refusal = Unfit; place = i }
 
 -- Refuses a cell that does not fit, at the given place.
 abbrev pub fitness : {V : Type 0} → (V → ℕ) → Limits → ℕ → Cell V → Result (Unit {0}) MemoryFault

@@ -1,7 +1,7 @@
 // Why a memory refuses, and where: the faults of layer 1.
 // Uses nothing.
 ghost use mathlib.Core.Path.{_≡_};
-ghost use Rattle.memory.specs.Faults.{memory-layer, refusal-number};
+ghost use Rattle.memory.specs.Faults.{memory-layer, refusal-number, no-cell, unfit};
 
 #[derive(Clone, Copy)]
 pub enum MemoryRefusal {
@@ -19,6 +19,26 @@ pub struct MemoryFault {
 }
 
 impl MemoryFault {
+    // There is no cell i.
+    pub fn no_cell(i: usize) -> MemoryFault
+        ensures { λ r. ⌜ r ≡ no-cell i ⌝ }
+    {
+        MemoryFault {
+            refusal: MemoryRefusal::NoCell,
+            place: i,
+        }
+    }
+
+    // The cell for place i does not fit.
+    pub fn unfit(i: usize) -> MemoryFault
+        ensures { λ r. ⌜ r ≡ unfit i ⌝ }
+    {
+        MemoryFault {
+            refusal: MemoryRefusal::Unfit,
+            place: i,
+        }
+    }
+
     // The layer of memories.
     pub fn layer(&self) -> u8
         ensures { λ r. ⌜ r ≡ memory-layer ⌝ }

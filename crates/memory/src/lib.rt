@@ -10,6 +10,7 @@ mod open;
 mod packed;
 mod reread;
 mod spliced;
+
 pub use cell::Cell;
 pub use cell::CellClone;
 pub use cell::TaggedId;

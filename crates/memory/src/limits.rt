@@ -5,7 +5,6 @@ ghost use Prim.Native.Nat.{min};
 ghost use Rattle.memory.specs.Rules.{fitting, smaller-limits, open-limits, admission, fitness};
 use crate::cell::Cell;
 use crate::fault::MemoryFault;
-use crate::fault::MemoryRefusal;
 use value::ValueKind;
 
 // The most cells that a memory has.
@@ -42,14 +41,18 @@ impl Limits {
 pub fn open_limits<V: ValueKind>() -> Limits
     ensures { λ r. ⌜ r ≡ open-limits greatest ⌝ }
 {
-    Limits { process: GREATEST_PROCESS, tag: GREATEST_TAG, code: V::code_limit() }
+    Limits {
+        process: GREATEST_PROCESS,
+        tag: GREATEST_TAG,
+        code: V::code_limit(),
+    }
 }
 
 // How many cells a table of this length counts for.
-pub fn counted(length: usize) -> usize
-    ensures { λ r. ⌜ r ≡ min 65535 length ⌝ }
+pub fn counted(table: usize) -> usize
+    ensures { λ r. ⌜ r ≡ min 65535 table ⌝ }
 {
-    length.min(MOST_CELLS)
+    table.min(MOST_CELLS)
 }
 
 // Whether the cell passes none of the limits.
@@ -63,21 +66,30 @@ pub fn cell_fits<V: ValueKind>(limits: Limits, cell: &Cell<V>) -> bool
 }
 
 // Refuses a cell that does not fit, naming the place.
-pub fn admit_cell<V: ValueKind>(limits: Limits, place: usize, cell: &Cell<V>) -> Result<(), MemoryFault>
+pub fn admit_cell<V: ValueKind>(
+    limits: Limits,
+    place: usize,
+    cell: &Cell<V>,
+) -> Result<(), MemoryFault>
     ensures { λ r. ⌜ r ≡ fitness coded limits place (now (cell .entry)) ⌝ }
 {
     if !cell_fits(limits, cell) {
-        return Err(MemoryFault { refusal: MemoryRefusal::Unfit, place });
+        return Err(MemoryFault::unfit(place));
     }
     Ok(())
 }
 
 // Refuses an index that is not below the length, then a cell that does not fit.
-pub fn admit<V: ValueKind>(length: usize, limits: Limits, i: usize, cell: &Cell<V>) -> Result<(), MemoryFault>
-    ensures { λ r. ⌜ r ≡ admission coded limits length i (now (cell .entry)) ⌝ }
+pub fn admit<V: ValueKind>(
+    count: usize,
+    limits: Limits,
+    i: usize,
+    cell: &Cell<V>,
+) -> Result<(), MemoryFault>
+    ensures { λ r. ⌜ r ≡ admission coded limits count i (now (cell .entry)) ⌝ }
 {
-    if i >= length {
-        return Err(MemoryFault { refusal: MemoryRefusal::NoCell, place: i });
+    if i >= count {
+        return Err(MemoryFault::no_cell(i));
     }
     admit_cell(limits, i, cell)
 }

@@ -6,7 +6,6 @@ ghost use Rattle.memory.specs.Rules.{first-cells, first-few, load-answer, open
 use crate::cell::Cell;
 use crate::cell::same_cell;
 use crate::fault::MemoryFault;
-use crate::fault::MemoryRefusal;
 use crate::interface::Memory;
 use crate::limits::Limits;
 use crate::limits::admit;
@@ -26,7 +25,7 @@ fn cell_of_table<V: ValueKind>(table: &[Cell<V>], i: usize) -> Result<Cell<V>, M
     ensures { λ r. ⌜ r ≡ load-answer (first-cells (now (table .entry))) i ⌝ }
 {
     if i >= counted(table.len()) {
-        return Err(MemoryFault { refusal: MemoryRefusal::NoCell, place: i });
+        return Err(MemoryFault::no_cell(i));
     }
     Ok(table[i])
 }

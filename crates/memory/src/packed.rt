@@ -9,7 +9,6 @@ use crate::cell::Cell;
 use crate::cell::TaggedId;
 use crate::cell::same_cell;
 use crate::fault::MemoryFault;
-use crate::fault::MemoryRefusal;
 use crate::interface::Memory;
 use crate::limits::Limits;
 use crate::limits::admit_cell;
@@ -23,7 +22,10 @@ pub fn unpack<V: ValueKind>(word: u64) -> Cell<V>
     ensures { λ r. ⌜ r ≡ cell-of decoded word ⌝ }
 {
     if word % 2 == 1 {
-        return Cell::Id(TaggedId { process: (word % 65_536 / 2) as u16, tag: word / 65_536 });
+        return Cell::Id(TaggedId {
+            process: (word % 65_536 / 2) as u16,
+            tag: word / 65_536,
+        });
     }
     match V::from_code(word / 2) {
         Some(value) => Cell::Value(value),
@@ -68,7 +70,7 @@ pub impl<'a, V: ValueKind> Memory<V> for PackedMemory<'a> as PackedIsMemory {
 
     fn load(&self, i: usize) -> Result<Cell<V>, MemoryFault> {
         if i >= counted(self.words.len()) {
-            return Err(MemoryFault { refusal: MemoryRefusal::NoCell, place: i });
+            return Err(MemoryFault::no_cell(i));
         }
         Ok(unpack(self.words[i]))
     }
@@ -84,10 +86,10 @@ pub impl<'a, V: ValueKind> Memory<V> for PackedMemory<'a> as PackedIsMemory {
         ensures words { λ r. ⌜ now (now (self .exit) .words) ≡ stored-words r (now (now (self .entry) .words)) i (word-of coded (now (cell .entry))) ⌝ }
     {
         if i >= counted(self.words.len()) {
-            return Err(MemoryFault { refusal: MemoryRefusal::NoCell, place: i });
+            return Err(MemoryFault::no_cell(i));
         }
         let Some(word) = pack(cell) else {
-            return Err(MemoryFault { refusal: MemoryRefusal::Unfit, place: i });
+            return Err(MemoryFault::unfit(i));
         };
         self.words[i] = word;
         Ok(())
@@ -100,10 +102,10 @@ pub impl<'a, V: ValueKind> Memory<V> for PackedMemory<'a> as PackedIsMemory {
         ensures words { λ r. ⌜ now (now (self .exit) .words) ≡ swapped-words r (now (now (self .entry) .words)) i (word-of coded (now (new .entry))) ⌝ }
     {
         if i >= counted(self.words.len()) {
-            return Err(MemoryFault { refusal: MemoryRefusal::NoCell, place: i });
+            return Err(MemoryFault::no_cell(i));
         }
         let Some(word) = pack(new) else {
-            return Err(MemoryFault { refusal: MemoryRefusal::Unfit, place: i });
+            return Err(MemoryFault::unfit(i));
         };
         let found: Cell<V> = unpack(self.words[i]);
         if !same_cell(&found, old) {

@@ -9,7 +9,11 @@ use crate::interface::Memory;
 use value::ValueKind;
 
 // Stores the cell and loads it again.
-pub fn store_and_load<V: ValueKind, M: Memory<V>>(memory: &mut M, i: usize, cell: &Cell<V>) -> Result<Cell<V>, MemoryFault>
+pub fn store_and_load<V: ValueKind, M: Memory<V>>(
+    memory: &mut M,
+    i: usize,
+    cell: &Cell<V>,
+) -> Result<Cell<V>, MemoryFault>
     ensures answer { λ r. ⌜ r ≡ stored-answer (store-answer coded (limits (now (memory .entry))) (cells (now (memory .entry))) i (now (cell .entry))) (now (cell .entry)) ⌝ }
     ensures after { λ _. ⌜ cells (now (memory .exit)) ≡ store-after coded (limits (now (memory .entry))) (cells (now (memory .entry))) i (now (cell .entry)) ⌝ }
     ensures kept { λ _. ⌜ limits (now (memory .exit)) ≡ limits (now (memory .entry)) ⌝ }
@@ -20,7 +24,12 @@ pub fn store_and_load<V: ValueKind, M: Memory<V>>(memory: &mut M, i: usize, cell
 }
 
 // Compares, perhaps swaps, and loads the cell: whether the swap was made, and what the cell then holds.
-pub fn cas_and_load<V: ValueKind, M: Memory<V>>(memory: &mut M, i: usize, old: &Cell<V>, new: &Cell<V>) -> Result<(bool, Cell<V>), MemoryFault>
+pub fn cas_and_load<V: ValueKind, M: Memory<V>>(
+    memory: &mut M,
+    i: usize,
+    old: &Cell<V>,
+    new: &Cell<V>,
+) -> Result<(bool, Cell<V>), MemoryFault>
     ensures answer { λ r. ⌜ r ≡ swapped-answer (cas-answer coded (limits (now (memory .entry))) (cells (now (memory .entry))) i (now (old .entry)) (now (new .entry))) (cell-at (cells (now (memory .entry))) i) (now (new .entry)) ⌝ }
     ensures after { λ _. ⌜ cells (now (memory .exit)) ≡ cas-after coded (limits (now (memory .entry))) (cells (now (memory .entry))) i (now (old .entry)) (now (new .entry)) ⌝ }
     ensures kept { λ _. ⌜ limits (now (memory .exit)) ≡ limits (now (memory .entry)) ⌝ }

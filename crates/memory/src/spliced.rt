@@ -4,7 +4,6 @@ ghost use mathlib.Core.List.{_++_};
 ghost use Rattle.memory.specs.Rules.{first-cells, first-few, smaller-limits};
 use crate::cell::Cell;
 use crate::fault::MemoryFault;
-use crate::fault::MemoryRefusal;
 use crate::interface::Memory;
 use crate::limits::Limits;
 use crate::limits::admit;
@@ -36,10 +35,14 @@ pub impl<V: ValueKind, A: Memory<V>, B: Memory<V>> Memory<V> for Spliced<A, B> a
 
     fn load(&self, i: usize) -> Result<Cell<V>, MemoryFault> {
         if i >= self.len() {
-            return Err(MemoryFault { refusal: MemoryRefusal::NoCell, place: i });
+            return Err(MemoryFault::no_cell(i));
         }
         let split = self.front.len();
-        if i < split { self.front.load(i) } else { self.back.load(i - split) }
+        if i < split {
+            self.front.load(i)
+        } else {
+            self.back.load(i - split)
+        }
     }
 
     fn fits(&self, cell: &Cell<V>) -> Result<(), MemoryFault> {
@@ -49,12 +52,20 @@ pub impl<V: ValueKind, A: Memory<V>, B: Memory<V>> Memory<V> for Spliced<A, B> a
     fn store(&mut self, i: usize, cell: &Cell<V>) -> Result<(), MemoryFault> {
         admit(self.len(), self.limits(), i, cell)?;
         let split = self.front.len();
-        if i < split { self.front.store(i, cell) } else { self.back.store(i - split, cell) }
+        if i < split {
+            self.front.store(i, cell)
+        } else {
+            self.back.store(i - split, cell)
+        }
     }
 
     fn cas(&mut self, i: usize, old: &Cell<V>, new: &Cell<V>) -> Result<bool, MemoryFault> {
         admit(self.len(), self.limits(), i, new)?;
         let split = self.front.len();
-        if i < split { self.front.cas(i, old, new) } else { self.back.cas(i - split, old, new) }
+        if i < split {
+            self.front.cas(i, old, new)
+        } else {
+            self.back.cas(i - split, old, new)
+        }
     }
 }

@@ -14,4 +14,5 @@ returns g c =
       answer = cas-found (v .coded) (v .decoded) (g .V·ValueKind·met .returned) (m .limits before) (m .cells before) (m .cells (c .cas .last .self)) (c .args .i) (c .args .old .now) (c .args .new .now) (c .cas .ensures .after) said found e l;
       after = c .cas .ensures .after;
       kept = c .cas .ensures .kept;
-      law = cas-law (v .coded) (v .decoded) (g .V·ValueKind·met .returned) (m .limits before) (m .cells before) (m .cells (c .cas .last .self)) (c .args .i) (c .args .old .now) (c .args .new .now) (c .cas .ensures .after) said found e l }
+      law = cas-law (v .coded) (v .decoded) (g .V·ValueKind·met .returned) (m .limits before) (m .cells before) (m .cells (c .cas .last .self)) (c .args .i) (c .args .old .now) (c .args .new .now) (c .cas .ensures .after) said found e l;
+    }
