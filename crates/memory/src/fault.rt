@@ -1,8 +1,12 @@
-// Why a memory refuses, and where: the faults of layer 1.
+// The faults of memories: why a memory refuses, and where.
 // Uses nothing.
 ghost use mathlib.Core.Path.{_≡_};
 ghost use Rattle.memory.specs.Faults.{memory-layer, refusal-number, no-cell, unfit};
 
+// The layer of memories.
+const MEMORY_LAYER: u8 = 1;
+
+// Why a memory refuses, by number.
 #[derive(Clone, Copy)]
 pub enum MemoryRefusal {
     // The memory has no such cell.
@@ -39,11 +43,11 @@ impl MemoryFault {
         }
     }
 
-    // The layer of memories.
+    // The layer that refuses.
     pub fn layer(&self) -> u8
         ensures { λ r. ⌜ r ≡ memory-layer ⌝ }
     {
-        1
+        MEMORY_LAYER
     }
 
     // The number of the refusal.

@@ -104,14 +104,14 @@ pub impl<'a, V: ValueKind> Memory<V> for PackedMemory<'a> as PackedIsMemory {
         if i >= counted(self.words.len()) {
             return Err(MemoryFault::no_cell(i));
         }
-        let Some(word) = pack(new) else {
+        let Some(new_word) = pack(new) else {
             return Err(MemoryFault::unfit(i));
         };
         let found: Cell<V> = unpack(self.words[i]);
         if !same_cell(&found, old) {
             return Ok(false);
         }
-        self.words[i] = word;
+        self.words[i] = new_word;
         Ok(true)
     }
 }
