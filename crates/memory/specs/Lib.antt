@@ -3,3 +3,4 @@ pub mod Faults
 pub mod Rules
 pub mod Words
 pub mod Laws
+pub mod Joined

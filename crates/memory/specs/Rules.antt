@@ -84,3 +84,14 @@ module _ {V : Type 0} (code : V → ℕ) (limits : Limits) (cells : List (Cell V
   -- With a yes it makes cell i the new cell; with a no or on refusal nothing changes.
   abbrev pub cas-after : Cell V → Cell V → List (Cell V)
   cas-after old new = cond (admitted new && same code (cell-at cells i) old) (set cells i new) cells
+
+-- What stands below a memory, as a table that may be longer than 65,535, or one of words. A Store that is not refused
+-- writes place i of it, and no other place changes; a refused Store changes none.
+abbrev pub table-stored : {X : Type 0} → Result (Unit {0}) MemoryFault → List X → ℕ → X → List X
+table-stored (Ok _) table i entry = set table i entry
+table-stored (Err _) table i entry = table
+
+-- A CAS that says yes writes place i of it, and no other place changes; a no or a refusal changes none.
+abbrev pub table-swapped : {X : Type 0} → Result Bool MemoryFault → List X → ℕ → X → List X
+table-swapped (Ok said) table i entry = cond said (set table i entry) table
+table-swapped (Err _) table i entry = table

@@ -1,17 +1,13 @@
--- The words of packed memory: the word of a cell, the cell of a word, and what a call does to the words.
+-- The words of packed memory: the word of a cell, and the cell of a word.
 use mathlib.Core.Path.{_≡_}
 use mathlib.Core.Bool.{Bool, true, false, cond}
 use mathlib.Core.List.{List, map}
 use Prim.Native.Nat.{ℕ, _+_, _*_, _/_, _%_, _^_, _<_}
 use lib.Dec.{eqb}
-use lib.ListN.{set}
 use Rattle.std.specs.declared.option.Option.{Option}
 use Rattle.std.specs.declared.option.Option.the-variants.{Some, None}
-use Rattle.std.specs.declared.result.Result.{Result}
-use Rattle.std.specs.declared.result.Result.the-variants.{Ok, Err}
 use Rattle.memory.specs.declared.cell.Cell.{Cell}
 use Rattle.memory.specs.declared.cell.Cell.the-variants.{Value, Id}
-use Rattle.memory.specs.declared.fault.MemoryFault.{MemoryFault}
 use Rattle.memory.specs.Rules.{id-zero, first-cells, fitting, open-limits}
 
 -- The word of a value is 2 * code, that of an id tag * 65,536 + process * 2 + 1.
@@ -35,16 +31,6 @@ cell-of decoded word = cond (eqb (word % 2) 1) (Id (record { process = word % 65
 -- The cells of a table of words.
 abbrev pub cells-of : {V : Type 0} → (ℕ → Option V) → List ℕ → List (Cell V)
 cells-of decoded words = first-cells (map (cell-of decoded) words)
-
--- A Store that is not refused writes word i, and no other word changes.
-abbrev pub stored-words : Result (Unit {0}) MemoryFault → List ℕ → ℕ → ℕ → List ℕ
-stored-words (Ok _) words i word = set words i word
-stored-words (Err _) words i word = words
-
--- A CAS that says yes writes word i, and no other word changes; a no or a refusal changes none.
-abbrev pub swapped-words : Result Bool MemoryFault → List ℕ → ℕ → ℕ → List ℕ
-swapped-words (Ok said) words i word = cond said (set words i word) words
-swapped-words (Err _) words i word = words
 
 -- Packing loses nothing: a cell that fits comes back from its word, which has 64 bits.
 abbrev pub Loses-nothing : {V : Type 0} → (V → ℕ) → (ℕ → Option V) → ℕ → Type 0

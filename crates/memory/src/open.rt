@@ -2,7 +2,7 @@
 // Uses the interface and the tests of limits.
 ghost use mathlib.Core.Path.{_≡_};
 ghost use denote.Ref.{now};
-ghost use Rattle.memory.specs.Rules.{first-cells, first-few, load-answer, open-limits};
+ghost use Rattle.memory.specs.Rules.{first-cells, first-few, open-limits, load-answer, store-answer, store-after, cas-answer, cas-after, table-stored, table-swapped};
 use crate::cell::Cell;
 use crate::cell::same_cell;
 use crate::fault::MemoryFault;
@@ -53,13 +53,23 @@ pub impl<'a, V: ValueKind> Memory<V> for OpenMemory<'a, V> as OpenIsMemory {
         admit_cell(self.limits(), 0, cell)
     }
 
-    fn store(&mut self, i: usize, cell: &Cell<V>) -> Result<(), MemoryFault> {
+    fn store(&mut self, i: usize, cell: &Cell<V>) -> Result<(), MemoryFault>
+        ensures answer { λ r. ⌜ r ≡ store-answer coded (open-limits greatest) (first-cells (now (now (self .entry) .cells))) i (now (cell .entry)) ⌝ }
+        ensures after { λ _. ⌜ first-cells (now (now (self .exit) .cells)) ≡ store-after coded (open-limits greatest) (first-cells (now (now (self .entry) .cells))) i (now (cell .entry)) ⌝ }
+        ensures kept { λ _. ⌜ open-limits greatest ≡ open-limits greatest ⌝ }
+        ensures table { λ r. ⌜ now (now (self .exit) .cells) ≡ table-stored r (now (now (self .entry) .cells)) i (now (cell .entry)) ⌝ }
+    {
         admit(self.len(), self.limits(), i, cell)?;
         self.cells[i] = *cell;
         Ok(())
     }
 
-    fn cas(&mut self, i: usize, old: &Cell<V>, new: &Cell<V>) -> Result<bool, MemoryFault> {
+    fn cas(&mut self, i: usize, old: &Cell<V>, new: &Cell<V>) -> Result<bool, MemoryFault>
+        ensures answer { λ r. ⌜ r ≡ cas-answer coded (open-limits greatest) (first-cells (now (now (self .entry) .cells))) i (now (old .entry)) (now (new .entry)) ⌝ }
+        ensures after { λ _. ⌜ first-cells (now (now (self .exit) .cells)) ≡ cas-after coded (open-limits greatest) (first-cells (now (now (self .entry) .cells))) i (now (old .entry)) (now (new .entry)) ⌝ }
+        ensures kept { λ _. ⌜ open-limits greatest ≡ open-limits greatest ⌝ }
+        ensures table { λ r. ⌜ now (now (self .exit) .cells) ≡ table-swapped r (now (now (self .entry) .cells)) i (now (new .entry)) ⌝ }
+    {
         admit(self.len(), self.limits(), i, new)?;
         let found = self.cells[i];
         if !same_cell(&found, old) {

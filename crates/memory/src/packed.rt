@@ -2,8 +2,8 @@
 // Uses the interface and the tests of limits. Cells are compared, never words.
 ghost use mathlib.Core.Path.{_≡_};
 ghost use denote.Ref.{now};
-ghost use Rattle.memory.specs.Rules.{first-few, open-limits, store-answer, store-after, cas-answer, cas-after};
-ghost use Rattle.memory.specs.Words.{word-of, packed, cell-of, cells-of, stored-words, swapped-words, Loses-nothing};
+ghost use Rattle.memory.specs.Rules.{first-few, open-limits, store-answer, store-after, cas-answer, cas-after, table-stored, table-swapped};
+ghost use Rattle.memory.specs.Words.{word-of, packed, cell-of, cells-of, Loses-nothing};
 ghost use mathlib.Core.List.{map};
 use crate::cell::Cell;
 use crate::cell::TaggedId;
@@ -83,7 +83,7 @@ pub impl<'a, V: ValueKind> Memory<V> for PackedMemory<'a> as PackedIsMemory {
         ensures answer { λ r. ⌜ r ≡ store-answer coded (open-limits greatest) (cells-of decoded (now (now (self .entry) .words))) i (now (cell .entry)) ⌝ }
         ensures after { λ _. ⌜ cells-of decoded (now (now (self .exit) .words)) ≡ store-after coded (open-limits greatest) (cells-of decoded (now (now (self .entry) .words))) i (now (cell .entry)) ⌝ }
         ensures kept { λ _. ⌜ open-limits greatest ≡ open-limits greatest ⌝ }
-        ensures words { λ r. ⌜ now (now (self .exit) .words) ≡ stored-words r (now (now (self .entry) .words)) i (word-of coded (now (cell .entry))) ⌝ }
+        ensures words { λ r. ⌜ now (now (self .exit) .words) ≡ table-stored r (now (now (self .entry) .words)) i (word-of coded (now (cell .entry))) ⌝ }
     {
         if i >= counted(self.words.len()) {
             return Err(MemoryFault::no_cell(i));
@@ -99,7 +99,7 @@ pub impl<'a, V: ValueKind> Memory<V> for PackedMemory<'a> as PackedIsMemory {
         ensures answer { λ r. ⌜ r ≡ cas-answer coded (open-limits greatest) (cells-of decoded (now (now (self .entry) .words))) i (now (old .entry)) (now (new .entry)) ⌝ }
         ensures after { λ _. ⌜ cells-of decoded (now (now (self .exit) .words)) ≡ cas-after coded (open-limits greatest) (cells-of decoded (now (now (self .entry) .words))) i (now (old .entry)) (now (new .entry)) ⌝ }
         ensures kept { λ _. ⌜ open-limits greatest ≡ open-limits greatest ⌝ }
-        ensures words { λ r. ⌜ now (now (self .exit) .words) ≡ swapped-words r (now (now (self .entry) .words)) i (word-of coded (now (new .entry))) ⌝ }
+        ensures words { λ r. ⌜ now (now (self .exit) .words) ≡ table-swapped r (now (now (self .entry) .words)) i (word-of coded (now (new .entry))) ⌝ }
     {
         if i >= counted(self.words.len()) {
             return Err(MemoryFault::no_cell(i));

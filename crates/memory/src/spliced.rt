@@ -1,7 +1,8 @@
 // Spliced memory: one memory's cells followed by another's.
 // Uses the interface and the tests of limits. It makes every test itself, so neither memory below refuses.
-ghost use mathlib.Core.List.{_++_};
-ghost use Rattle.memory.specs.Rules.{first-cells, first-few, smaller-limits};
+ghost use mathlib.Core.Path.{_≡_};
+ghost use Rattle.memory.specs.Joined.{joined, joined-limits};
+ghost use Rattle.memory.specs.Rules.{first-cells, first-few, store-answer, store-after, cas-answer, cas-after, table-stored, table-swapped};
 use crate::cell::Cell;
 use crate::fault::MemoryFault;
 use crate::interface::Memory;
@@ -19,11 +20,11 @@ pub struct Spliced<A, B> {
 }
 
 pub impl<V: ValueKind, A: Memory<V>, B: Memory<V>> Memory<V> for Spliced<A, B> as SplicedIsMemory {
-    ghost cells = { λ m. first-cells (A·Memory .cells (m .front) ++ B·Memory .cells (m .back)) };
+    ghost cells = { λ m. first-cells (joined (A·Memory .cells) (B·Memory .cells) m) };
 
-    ghost limits = { λ m. smaller-limits (A·Memory .limits (m .front)) (B·Memory .limits (m .back)) };
+    ghost limits = { λ m. joined-limits (A·Memory .limits) (B·Memory .limits) m };
 
-    ghost few = { λ m. first-few (A·Memory .cells (m .front) ++ B·Memory .cells (m .back)) };
+    ghost few = { λ m. first-few (joined (A·Memory .cells) (B·Memory .cells) m) };
 
     fn len(&self) -> usize {
         counted(self.front.len() + self.back.len())
@@ -49,7 +50,12 @@ pub impl<V: ValueKind, A: Memory<V>, B: Memory<V>> Memory<V> for Spliced<A, B> a
         admit_cell(self.limits(), 0, cell)
     }
 
-    fn store(&mut self, i: usize, cell: &Cell<V>) -> Result<(), MemoryFault> {
+    fn store(&mut self, i: usize, cell: &Cell<V>) -> Result<(), MemoryFault>
+        ensures answer { λ r. ⌜ r ≡ store-answer coded (joined-limits (A·Memory .limits) (B·Memory .limits) (now (self .entry))) (first-cells (joined (A·Memory .cells) (B·Memory .cells) (now (self .entry)))) i (now (cell .entry)) ⌝ }
+        ensures after { λ _. ⌜ first-cells (joined (A·Memory .cells) (B·Memory .cells) (now (self .exit))) ≡ store-after coded (joined-limits (A·Memory .limits) (B·Memory .limits) (now (self .entry))) (first-cells (joined (A·Memory .cells) (B·Memory .cells) (now (self .entry)))) i (now (cell .entry)) ⌝ }
+        ensures kept { λ _. ⌜ joined-limits (A·Memory .limits) (B·Memory .limits) (now (self .exit)) ≡ joined-limits (A·Memory .limits) (B·Memory .limits) (now (self .entry)) ⌝ }
+        ensures table { λ r. ⌜ joined (A·Memory .cells) (B·Memory .cells) (now (self .exit)) ≡ table-stored r (joined (A·Memory .cells) (B·Memory .cells) (now (self .entry))) i (now (cell .entry)) ⌝ }
+    {
         admit(self.len(), self.limits(), i, cell)?;
         let split = self.front.len();
         if i < split {
@@ -59,7 +65,12 @@ pub impl<V: ValueKind, A: Memory<V>, B: Memory<V>> Memory<V> for Spliced<A, B> a
         }
     }
 
-    fn cas(&mut self, i: usize, old: &Cell<V>, new: &Cell<V>) -> Result<bool, MemoryFault> {
+    fn cas(&mut self, i: usize, old: &Cell<V>, new: &Cell<V>) -> Result<bool, MemoryFault>
+        ensures answer { λ r. ⌜ r ≡ cas-answer coded (joined-limits (A·Memory .limits) (B·Memory .limits) (now (self .entry))) (first-cells (joined (A·Memory .cells) (B·Memory .cells) (now (self .entry)))) i (now (old .entry)) (now (new .entry)) ⌝ }
+        ensures after { λ _. ⌜ first-cells (joined (A·Memory .cells) (B·Memory .cells) (now (self .exit))) ≡ cas-after coded (joined-limits (A·Memory .limits) (B·Memory .limits) (now (self .entry))) (first-cells (joined (A·Memory .cells) (B·Memory .cells) (now (self .entry)))) i (now (old .entry)) (now (new .entry)) ⌝ }
+        ensures kept { λ _. ⌜ joined-limits (A·Memory .limits) (B·Memory .limits) (now (self .exit)) ≡ joined-limits (A·Memory .limits) (B·Memory .limits) (now (self .entry)) ⌝ }
+        ensures table { λ r. ⌜ joined (A·Memory .cells) (B·Memory .cells) (now (self .exit)) ≡ table-swapped r (joined (A·Memory .cells) (B·Memory .cells) (now (self .entry))) i (now (new .entry)) ⌝ }
+    {
         admit(self.len(), self.limits(), i, new)?;
         let split = self.front.len();
         if i < split {

@@ -48,7 +48,7 @@ returns g c =
     let r = getD-read cs i (c .index-self-i .result) (omega arith) (c .index-self-i .is) id-zero in
     let s : same (v .coded) (c .index-self-i .result) (c .args .old .now) ≡ true = cc in
     let y = cas-yes (v .coded) (open-limits (v .greatest)) (first-cells cs) i (c .args .new .now) (a .0) (a .1) (c .args .old .now) (ap (λ x. same (v .coded) x (c .args .old .now)) (f ∙ sym r) ∙ s) in
-    record { answer = sym (y .0); after = first-set cs i (c .args .new .now) ∙ sym (y .1); kept = refl {a = open-limits (v .greatest)} }
+    record { answer = sym (y .0); after = first-set cs i (c .args .new .now) ∙ sym (y .1); kept = refl {a = open-limits (v .greatest)}; table = refl }
 
 pub returns-then-not-same-cell : need.returns-then-not-same-cell
 returns-then-not-same-cell g c =
@@ -61,4 +61,4 @@ returns-then-not-same-cell g c =
     let r = getD-read cs i (c .index-self-i .result) (omega arith) (c .index-self-i .is) id-zero in
     let s : same (v .coded) (c .index-self-i .result) (c .args .old .now) ≡ false = cc in
     let y = cas-no (v .coded) (open-limits (v .greatest)) (first-cells cs) i (c .args .new .now) (a .0) (a .1) (c .args .old .now) (ap (λ x. same (v .coded) x (c .args .old .now)) (f ∙ sym r) ∙ s) in
-    record { answer = sym (y .0); after = sym (y .1); kept = refl {a = open-limits (v .greatest)} }
+    record { answer = sym (y .0); after = sym (y .1); kept = refl {a = open-limits (v .greatest)}; table = refl }

@@ -28,4 +28,4 @@ returns g c =
     let cs = c .args .self .now .cells .now in
     let a = passed (g .V·ValueKind .coded) (first-cells (c .args .self .now .cells .now)) (c .args .i) (c .args .cell .now) (c .limits .ensures) (c .len .ensures) (c .in-Continue-admit .ensures tt) in
     let y = store-yes (g .V·ValueKind .coded) (open-limits (g .V·ValueKind .greatest)) (first-cells cs) (c .args .i) (c .args .cell .now) (a .0) (a .1) in
-    record { answer = sym (y .0); after = first-set cs (c .args .i) (c .args .cell .now) ∙ sym (y .1); kept = refl {a = open-limits (g .V·ValueKind .greatest)} }
+    record { answer = sym (y .0); after = first-set cs (c .args .i) (c .args .cell .now) ∙ sym (y .1); kept = refl {a = open-limits (g .V·ValueKind .greatest)}; table = refl }
