@@ -53,6 +53,7 @@ pub impl<'a, V: ValueKind> Memory<V> for OpenMemory<'a, V> as OpenIsMemory {
         admit_cell(self.limits(), 0, cell)
     }
 
+    // Beyond the interface, no other cell of the table changes, be it past the first 65,535.
     fn store(&mut self, i: usize, cell: &Cell<V>) -> Result<(), MemoryFault>
         ensures answer { λ r. ⌜ r ≡ store-answer coded (open-limits greatest) (first-cells (now (now (self .entry) .cells))) i (now (cell .entry)) ⌝ }
         ensures after { λ _. ⌜ first-cells (now (now (self .exit) .cells)) ≡ store-after coded (open-limits greatest) (first-cells (now (now (self .entry) .cells))) i (now (cell .entry)) ⌝ }

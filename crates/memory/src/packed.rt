@@ -79,6 +79,7 @@ pub impl<'a, V: ValueKind> Memory<V> for PackedMemory<'a> as PackedIsMemory {
         admit_cell(open_limits::<V>(), 0, cell)
     }
 
+    // Beyond the interface, exactly one word is written, the word of the cell.
     fn store(&mut self, i: usize, cell: &Cell<V>) -> Result<(), MemoryFault>
         ensures answer { λ r. ⌜ r ≡ store-answer coded (open-limits greatest) (cells-of decoded (now (now (self .entry) .words))) i (now (cell .entry)) ⌝ }
         ensures after { λ _. ⌜ cells-of decoded (now (now (self .exit) .words)) ≡ store-after coded (open-limits greatest) (cells-of decoded (now (now (self .entry) .words))) i (now (cell .entry)) ⌝ }
@@ -95,6 +96,7 @@ pub impl<'a, V: ValueKind> Memory<V> for PackedMemory<'a> as PackedIsMemory {
         Ok(())
     }
 
+    // Beyond the interface, a yes writes exactly one word, and nothing else changes any.
     fn cas(&mut self, i: usize, old: &Cell<V>, new: &Cell<V>) -> Result<bool, MemoryFault>
         ensures answer { λ r. ⌜ r ≡ cas-answer coded (open-limits greatest) (cells-of decoded (now (now (self .entry) .words))) i (now (old .entry)) (now (new .entry)) ⌝ }
         ensures after { λ _. ⌜ cells-of decoded (now (now (self .exit) .words)) ≡ cas-after coded (open-limits greatest) (cells-of decoded (now (now (self .entry) .words))) i (now (old .entry)) (now (new .entry)) ⌝ }

@@ -50,6 +50,7 @@ pub impl<V: ValueKind, A: Memory<V>, B: Memory<V>> Memory<V> for Spliced<A, B> a
         admit_cell(self.limits(), 0, cell)
     }
 
+    // Beyond the interface, no other cell of the two memories changes, be it past the first 65,535.
     fn store(&mut self, i: usize, cell: &Cell<V>) -> Result<(), MemoryFault>
         ensures answer { λ r. ⌜ r ≡ store-answer coded (joined-limits (A·Memory .limits) (B·Memory .limits) (now (self .entry))) (first-cells (joined (A·Memory .cells) (B·Memory .cells) (now (self .entry)))) i (now (cell .entry)) ⌝ }
         ensures after { λ _. ⌜ first-cells (joined (A·Memory .cells) (B·Memory .cells) (now (self .exit))) ≡ store-after coded (joined-limits (A·Memory .limits) (B·Memory .limits) (now (self .entry))) (first-cells (joined (A·Memory .cells) (B·Memory .cells) (now (self .entry)))) i (now (cell .entry)) ⌝ }
