@@ -15,6 +15,7 @@ use crate::limits::admit_cell;
 use crate::limits::cell_fits;
 use crate::limits::counted;
 use crate::limits::open_limits;
+use std::marker::PhantomData;
 use value::ValueKind;
 
 // The cell that a word stands for. An even word whose code gives no value stands for id (0, 0).
@@ -47,13 +48,14 @@ pub fn pack<V: ValueKind>(cell: &Cell<V>) -> Option<u64>
     }
 }
 
-// A table of words, of which the first 65,535 count.
+// A table of words, of which the first 65,535 count, and the kind of the values in it.
 #[derive(Drop)]
-pub struct PackedMemory<'a> {
+pub struct PackedMemory<'a, V> {
     pub words: &'a mut [u64],
+    pub kind: PhantomData<V>,
 }
 
-pub impl<'a, V: ValueKind> Memory<V> for PackedMemory<'a> as PackedIsMemory {
+pub impl<'a, V: ValueKind> Memory<V> for PackedMemory<'a, V> as PackedIsMemory {
     ghost cells = { λ m. cells-of decoded (now (m .words)) };
 
     ghost limits = { λ m. open-limits greatest };

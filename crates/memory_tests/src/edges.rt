@@ -11,6 +11,7 @@ use memory::OpenMemory;
 use memory::PackedIsMemory;
 use memory::PackedMemory;
 use memory::pack;
+use std::marker::PhantomData;
 use std::test::*;
 use value::LinkKind;
 use value::NumberKind;
@@ -58,7 +59,10 @@ fn open_swaps_only_the_same_cell() -> Result<(), Fail> {
 #[test]
 fn packed_keeps_links_as_words() -> Result<(), Fail> {
     let mut words = [7; 3];
-    let mut packed = PackedMemory { words: &mut words };
+    let mut packed = PackedMemory {
+        words: &mut words,
+        kind: PhantomData,
+    };
     check(found(packed.load(0), &linked(3, 0)))?;
     check_eq(refusal(packed.store(0, &last_link())), (0, 0, 0))?;
     check_eq(
@@ -79,7 +83,10 @@ fn packed_keeps_links_as_words() -> Result<(), Fail> {
 #[test]
 fn packed_compares_cells() -> Result<(), Fail> {
     let mut words = [2, 262_144, 1];
-    let mut packed = PackedMemory { words: &mut words };
+    let mut packed = PackedMemory {
+        words: &mut words,
+        kind: PhantomData,
+    };
     check(found(packed.load(0), &linked(0, 0)))?;
     check(found(packed.load(1), &linked(0, 0)))?;
     check(matches!(packed.cas(0, &linked(0, 0), &linked(5, 3)), Ok(true)))?;

@@ -19,6 +19,7 @@ use memory::Spliced;
 use memory::SplicedIsMemory;
 use memory::cas_and_load;
 use memory::store_and_load;
+use std::marker::PhantomData;
 use std::test::*;
 use value::LinkKind;
 use value::NumberKind;
@@ -28,7 +29,10 @@ use value::NumberKind;
 fn spliced_over_narrow() -> Result<(), Fail> {
     let mut table = [number(1), number(2)];
     let mut words = [6, 8];
-    let mut packed = PackedMemory { words: &mut words };
+    let mut packed = PackedMemory {
+        words: &mut words,
+        kind: PhantomData,
+    };
     let own = Limits {
         process: 9,
         tag: 100,
@@ -60,9 +64,15 @@ fn spliced_over_narrow() -> Result<(), Fail> {
 fn narrow_over_spliced() -> Result<(), Fail> {
     let mut first = [0, 2];
     let mut second = [4];
-    let mut lower = PackedMemory { words: &mut second };
+    let mut lower = PackedMemory {
+        words: &mut second,
+        kind: PhantomData,
+    };
     let below = Spliced {
-        front: PackedMemory { words: &mut first },
+        front: PackedMemory {
+            words: &mut first,
+            kind: PhantomData,
+        },
         back: Lent { memory: &mut lower },
     };
     let mut narrow = Narrow {
@@ -92,7 +102,10 @@ fn narrow_over_spliced() -> Result<(), Fail> {
 #[test]
 fn long_tables_are_cut(rt: LibcRuntime) -> Result<(), Fail> {
     let mut words = vec![in rt.alloc(); 0; 65_536]?;
-    let mut packed = PackedMemory { words: &mut words };
+    let mut packed = PackedMemory {
+        words: &mut words,
+        kind: PhantomData,
+    };
     check_eq(refusal(packed.store(65_534, &number(1))), (0, 0, 0))?;
     check_eq(refusal(packed.store(65_535, &number(1))), (1, 1, 65_535))?;
     let mut both = Spliced {
