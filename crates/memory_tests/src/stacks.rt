@@ -1,10 +1,13 @@
 // Memories that stand on others, and tables that are too long.
-use crate::support::found;
+// Uses the value kinds, the memories and what the tests share.
+use crate::support::cas;
+use crate::support::fits;
+use crate::support::holds;
 use crate::support::last_link;
 use crate::support::linked;
 use crate::support::number;
 use crate::support::numbered;
-use crate::support::refusal;
+use crate::support::store;
 use memory::Lent;
 use memory::LentIsMemory;
 use memory::Limits;
@@ -49,13 +52,14 @@ fn spliced_over_narrow() -> Result<(), Fail> {
         },
     };
     check(all.len() == 4)?;
-    check(found(all.load(1), &number(2)) && found(all.load(2), &number(3)))?;
-    check_eq(refusal(all.load(4)), (1, 1, 4))?;
-    check(found(store_and_load(&mut all, 3, &number(50)), &number(50)))?;
-    check_eq(refusal(all.store(3, &number(51))), (1, 2, 3))?;
-    check_eq(refusal(all.store(2, &numbered(10, 0))), (1, 2, 2))?;
-    check(matches!(all.cas(3, &number(50), &numbered(9, 100)), Ok(true)))?;
-    check(matches!(all.cas(1, &number(1), &number(4)), Ok(false)))?;
+    check_eq(holds(&all, 1, &number(2)), Ok(true))?;
+    check_eq(holds(&all, 2, &number(3)), Ok(true))?;
+    check_eq(holds(&all, 4, &number(3)), Err((1, 1, 4)))?;
+    check_eq(store(&mut all, 3, &number(50)), Ok(()))?;
+    check_eq(store(&mut all, 3, &number(51)), Err((1, 2, 3)))?;
+    check_eq(store(&mut all, 2, &numbered(10, 0)), Err((1, 2, 2)))?;
+    check_eq(cas(&mut all, 3, &number(50), &numbered(9, 100)), Ok(true))?;
+    check_eq(cas(&mut all, 1, &number(1), &number(4)), Ok(false))?;
     check_eq(words, [6, 100 * 65_536 + 19])
 }
 
@@ -68,29 +72,29 @@ fn narrow_over_spliced() -> Result<(), Fail> {
         words: &mut second,
         kind: PhantomData,
     };
+    let front = PackedMemory {
+        words: &mut first,
+        kind: PhantomData,
+    };
     let below = Spliced {
-        front: PackedMemory {
-            words: &mut first,
-            kind: PhantomData,
-        },
+        front,
         back: Lent { memory: &mut lower },
     };
-    let mut narrow = Narrow {
-        below,
-        own: Limits {
-            process: 9,
-            tag: 0xffff_ffff_ffff_ffff,
-            code: 131_070,
-        },
+    let own = Limits {
+        process: 9,
+        tag: 0xffff_ffff_ffff_ffff,
+        code: 131_070,
     };
-    check(narrow.limits().code == 131_070 && narrow.limits().tag == 0xffff_ffff_ffff)?;
-    check_eq(refusal(narrow.fits(&last_link())), (1, 2, 0))?;
-    check_eq(refusal(narrow.store(2, &last_link())), (1, 2, 2))?;
-    check_eq(refusal(narrow.store(3, &last_link())), (1, 1, 3))?;
+    let mut narrow = Narrow { below, own };
+    check_eq(fits(&narrow, &last_link()), Err((1, 2, 0)))?;
+    check_eq(fits(&narrow, &linked(9, 0xffff_ffff_ffff)), Ok(()))?;
     check_eq(
-        refusal(narrow.fits(&linked(9, 0x1_0000_0000_0000))),
-        (1, 2, 0),
+        fits(&narrow, &linked(9, 0x1_0000_0000_0000)),
+        Err((1, 2, 0)),
     )?;
+    check_eq(store(&mut narrow, 2, &last_link()), Err((1, 2, 2)))?;
+    check_eq(store(&mut narrow, 3, &last_link()), Err((1, 1, 3)))?;
+    check(matches!(store_and_load(&mut narrow, 2, &linked(9, 1)), Ok(_)))?;
     check(matches!(
         cas_and_load(&mut narrow, 1, &linked(0, 0), &linked(9, 1)),
         Ok((true, _))
@@ -106,8 +110,8 @@ fn long_tables_are_cut(rt: LibcRuntime) -> Result<(), Fail> {
         words: &mut words,
         kind: PhantomData,
     };
-    check_eq(refusal(packed.store(65_534, &number(1))), (0, 0, 0))?;
-    check_eq(refusal(packed.store(65_535, &number(1))), (1, 1, 65_535))?;
+    check_eq(store(&mut packed, 65_534, &number(1)), Ok(()))?;
+    check_eq(store(&mut packed, 65_535, &number(1)), Err((1, 1, 65_535)))?;
     let mut both = Spliced {
         front: OpenMemory {
             cells: &mut [number(0)],
@@ -115,9 +119,9 @@ fn long_tables_are_cut(rt: LibcRuntime) -> Result<(), Fail> {
         back: packed,
     };
     check(both.len() == 65_535)?;
-    check(found(both.load(65_534), &number(0)))?;
+    check_eq(holds(&both, 65_534, &number(0)), Ok(true))?;
     check_eq(
-        refusal(both.cas(65_535, &number(1), &number(2))),
-        (1, 1, 65_535),
+        cas(&mut both, 65_535, &number(1), &number(2)),
+        Err((1, 1, 65_535)),
     )
 }

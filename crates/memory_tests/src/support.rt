@@ -1,5 +1,7 @@
-// What the tests share: cells to store, and an answer as three numbers.
+// What the tests share: cells to store, and the calls of a memory with a refusal told by its three numbers.
+// Uses the value kinds and the memories.
 use memory::Cell;
+use memory::Memory;
 use memory::MemoryFault;
 use memory::TaggedId;
 use memory::same_cell;
@@ -8,11 +10,52 @@ use value::Node;
 use value::Number;
 use value::ValueKind;
 
-// The layer, number and place of a refusal, and zeros where there is none.
-pub fn refusal<T: Drop>(answer: Result<T, MemoryFault>) -> (u8, u8, usize) {
-    match answer {
-        Ok(_) => (0, 0, 0),
-        Err(fault) => (fault.layer(), fault.number(), fault.place()),
+// The layer, number and place of a refusal.
+pub type Refusal = (u8, u8, usize);
+
+fn numbers(fault: MemoryFault) -> Refusal {
+    (fault.layer(), fault.number(), fault.place())
+}
+
+pub fn store<V: ValueKind, M: Memory<V>>(
+    memory: &mut M,
+    i: usize,
+    cell: &Cell<V>,
+) -> Result<(), Refusal> {
+    match memory.store(i, cell) {
+        Ok(()) => Ok(()),
+        Err(fault) => Err(numbers(fault)),
+    }
+}
+
+pub fn cas<V: ValueKind, M: Memory<V>>(
+    memory: &mut M,
+    i: usize,
+    old: &Cell<V>,
+    new: &Cell<V>,
+) -> Result<bool, Refusal> {
+    match memory.cas(i, old, new) {
+        Ok(said) => Ok(said),
+        Err(fault) => Err(numbers(fault)),
+    }
+}
+
+pub fn fits<V: ValueKind, M: Memory<V>>(memory: &M, cell: &Cell<V>) -> Result<(), Refusal> {
+    match memory.fits(cell) {
+        Ok(()) => Ok(()),
+        Err(fault) => Err(numbers(fault)),
+    }
+}
+
+// Whether a Load of i finds the cell.
+pub fn holds<V: ValueKind, M: Memory<V>>(
+    memory: &M,
+    i: usize,
+    cell: &Cell<V>,
+) -> Result<bool, Refusal> {
+    match memory.load(i) {
+        Ok(found) => Ok(same_cell(&found, cell)),
+        Err(fault) => Err(numbers(fault)),
     }
 }
 
@@ -36,12 +79,4 @@ pub fn last_link() -> Cell<Link> {
         number: 65_535,
         deleted: true,
     }))
-}
-
-// Whether a Load found this cell.
-pub fn found<V: ValueKind>(answer: Result<Cell<V>, MemoryFault>, cell: &Cell<V>) -> bool {
-    match answer {
-        Ok(loaded) => same_cell(&loaded, cell),
-        Err(_) => false,
-    }
 }
