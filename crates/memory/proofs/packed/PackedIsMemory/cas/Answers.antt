@@ -22,8 +22,8 @@ returns-in-rest g c =
     let f = packed-none (v .coded) (v .greatest) (c .args .new .now) (c .in-rest .ensures tt .answer) in
     record { answer = grind (arith, tells); after = grind (arith, tells); kept = refl {a = open-limits (v .greatest)}; words = refl {a = c .args .self .now .words .now} }
 
-pub returns-then-not-same-cell : need.returns-then-not-same-cell
-returns-then-not-same-cell g c =
+pub returns-then-not-same : need.returns-then-not-same
+returns-then-not-same g c =
     let v = g .V·ValueKind in
     let ws = c .args .self .now .words .now in
     let i = c .args .i in
