@@ -154,5 +154,5 @@ module _ (bytes : List ℕ) {V : Type 0} (code : V → ℕ) where
         let d = parted small at o (more ++ rest) (q .0) in
         cond-false (leb end at) (Ok []) _ (lt-leb end at (omega arith))
           ∙ gather (operation-answer decode bytes end at) (operations-answer decode bytes end left (at + size-by (getD bytes (at + 2) 0))) o ops
-              (operation-read at end o (more ++ rest) (h .0 .1) (p .0) (omega arith) d)
+              (operation-read at end o (more ++ rest) (h .0) (p .0) (omega arith) d)
               (ap (λ x. operations-answer decode bytes end left (at + size-by x)) (d .count-byte) ∙ operations-read (at + size-by n) left end ops rest (h .1) (p .1) (q .1))

@@ -23,4 +23,4 @@ put-operands-requires g c κs =
 pub returns : need.returns
 returns g c =
     let made = op-made (g .V·ValueKind .coded) (op-of (c .args .operation .now)) (c .number .result) (c .count .result) (c .new-code .result) (c .number .ensures ∙ ap kind-number (c .kind .ensures)) (c .count .ensures) (c .new-code .ensures) (c .number .ok) (omega arith) (omega arith) in
-    puts-as made (then-puts (c .put-fields-next .ensures) (c .put-operands .ensures))
+    record { puts = puts-as made (then-puts (c .put-fields-next .ensures) (c .put-operands .ensures .puts)); fits = c .put-operands .ensures .fits }
