@@ -4,7 +4,7 @@ use mathlib.Core.Path.{_≡_}
 use Prim.Native.Nat.{ℕ, _≤_}
 use lib.ListN.{length, take}
 use Rattle.std.specs.declared.option.Option.{Option}
-use Rattle.std.specs.declared.result.Result.the-variants.{Ok, Err}
+use Rattle.std.specs.declared.result.Result.the-variants.{Ok}
 use Rattle.sheet.specs.Bytes.{AllBelow}
 use Rattle.sheet.specs.Parts.{Parts, AllFitting}
 use Rattle.sheet.specs.Format.{sheet-bytes}
