@@ -6,7 +6,7 @@ use Rattle.sheet.specs.Format.{operands-bytes}
 use Rattle.sheet.specs.Kinds.{kind-number}
 use Rattle.sheet.specs.Parts.{act-of, op-of}
 use Rattle.sheet.specs.Puts.{field-bytes}
-use Rattle.sheet.proofs.Lengths.{op-made}
+use Rattle.sheet.proofs.Made.{op-made}
 use Rattle.sheet.proofs.Putting.{puts-as, room-as, first-room, then-room, then-puts}
 use Rattle.sheet.proofs.puts.put_operation.Needs as need
 

@@ -10,7 +10,7 @@ use Rattle.sheet.specs.Faults.{fault}
 use Rattle.sheet.specs.Format.{sheet-bytes}
 use Rattle.sheet.specs.Parts.{parts-of}
 use Rattle.sheet.specs.Reading.{read-answer}
-use Rattle.sheet.proofs.Lengths.{length-sheet}
+use Rattle.sheet.proofs.Sizes.{sheet-length}
 use Rattle.sheet.proofs.Putting.{put-over}
 use Rattle.sheet.proofs.ReadSheet.{write-then-read}
 use Rattle.sheet.proofs.Written.{laid-total, laid-small, write-refused, write-short, write-fits, after-refused, after-fits}
@@ -48,7 +48,7 @@ put-sheet-requires g c κs =
     let laid = sym (c .layout .ensures) ∙ c .in-Continue-end .was tt in
     let whole = laid-total p end laid in
     record {
-      room = record { holds = omega (arith, whole, length-sheet (g .V·ValueKind .coded) (g .V·ValueKind .number) p) };
+      room = record { holds = omega (arith, whole, sheet-length (g .V·ValueKind .coded) (g .V·ValueKind .number) p) };
       whole = whole;
       small = laid-small p end laid (vec-items (c .args .self .now .operations)) refl;
     }
@@ -60,7 +60,7 @@ returns g c =
     let end = c .in-Continue-end .end in
     let laid = sym (c .layout .ensures) ∙ c .in-Continue-end .was tt in
     let fits = write-fits p (length out) end laid (c .if-out-end .left) in
-    let long = length-sheet (g .V·ValueKind .coded) (g .V·ValueKind .number) p in
+    let long = sheet-length (g .V·ValueKind .coded) (g .V·ValueKind .number) p in
     let is-end : c .put-sheet .result ≡ end = omega (arith, c .put-sheet .ensures .puts .ends, long, laid-total p end laid) in
     let room : length (sheet-bytes (g .V·ValueKind .coded) (g .V·ValueKind .number) p) ≤ length out = omega (arith, long, laid-total p end laid) in
     let answer = ap Ok is-end ∙ sym fits in
