@@ -7,7 +7,7 @@ use native.Mathlib.Omega.{arith}
 use lib.Dec.{eqb, leb}
 use lib.ListN.{length}
 use Rattle.std.specs.declared.result.Result.the-variants.{Ok}
-use Rattle.std.proofs.shelf.Tests.{and-parts, and-from, leb-true, le-leb, eqb-true, eq-eqb}
+use Rattle.std.proofs.shelf.Tests.{and-parts, leb-true, le-leb, eqb-true, eq-eqb}
 use Rattle.sheet.specs.declared.fault.SheetRefusal.the-variants.{WrongScript}
 use Rattle.sheet.specs.declared.parts.ScriptItem.{ScriptItem}
 use Rattle.sheet.specs.Faults.{fault}
@@ -15,6 +15,7 @@ use Rattle.sheet.specs.Parts.{Parts}
 use Rattle.sheet.specs.Format.{operations-at, script-at, total}
 use Rattle.sheet.specs.Reading.{within, starts}
 use Rattle.sheet.specs.Writing.{writable, operations-end, script-end, layout-answer, write-answer}
+use Rattle.sheet.proofs.Layouts.{true-within}
 use Rattle.sheet.proofs.Steps.{ok-same, pass, passed, go-on, begun}
 use Rattle.sheet.proofs.ReadOperations.{ends}
 
@@ -22,9 +23,6 @@ pub within-true : (low high n : ℕ) → within low high n ≡ true → (low ≤
 within-true low high n h =
     let p = and-parts (leb low n) (leb n high) h in
     (leb-true low n (p .0), leb-true n high (p .1))
-
-pub true-within : (low high n : ℕ) → low ≤ n → n ≤ high → within low high n ≡ true
-true-within low high n h k = and-from (leb low n) (leb n high) (le-leb low n h) (le-leb n high k)
 
 script-ends : (at end : ℕ) (items : List ScriptItem) → script-end at items ≡ Ok end → end ≡ at + length items
 unfolding script-end
@@ -56,7 +54,7 @@ module _ {V : Type 0} (p : Parts V) where
         begins = eqb-true (starts (p .script)) (length (p .operations)) m
       }, end)
 
-  laid-out : (t : ℕ) → layout-answer p ≡ Ok t → Laid × (t ≡ total p)
+  pub laid-out : (t : ℕ) → layout-answer p ≡ Ok t → Laid × (t ≡ total p)
   unfolding layout-answer
   laid-out t e =
       let a = passed (within 1 256 (length (p .initial))) _ _ t e in

@@ -1,12 +1,13 @@
 -- Numbers as bytes: what stands at a place of a list of bytes, as a number and as bytes.
 use mathlib.Core.Path.{_≡_, refl, ap, sym, _∙_}
-use mathlib.Core.List.{List, [], _∷_, _++_}
+use mathlib.Core.List.{List, _∷_, _++_}
 use Prim.Native.Nat.{ℕ, zero, suc, _+_, _*_, _/_, _%_, _^_, _<_, _≤_}
 use native.Mathlib.Nat.{pow-succ', add-zero}
 use native.Mathlib.Omega.{arith}
 use lib.ListN.{length, getD, drop}
+use Rattle.std.proofs.shelf.Elements.{all-getD}
 use Rattle.std.proofs.shelf.Lists.{append-assoc, drop-drop, drop-at, drop-more, getD-drop}
-use Rattle.sheet.specs.Bytes.{field, bytes-of, AllBytes}
+use Rattle.sheet.specs.Bytes.{field, bytes-of, AllBelow}
 
 pub bytes-length : (w n : ℕ) → length (bytes-of w n) ≡ w
 unfolding bytes-of
@@ -44,17 +45,12 @@ field-read bytes at (suc w) n rest h e =
     let high : field bytes (at + 1) w ≡ n / 256 = field-read bytes (at + 1) w (n / 256) rest (omega arith) (drop-past bytes at 1 (n % 256 ∷ (bytes-of w (n / 256) ++ rest)) e) in
     omega arith
 
-all-byte : (bytes : List ℕ) (at : ℕ) → AllBytes bytes → at < length bytes → getD bytes at 0 < 256
-all-byte [] at h k = absurd (omega arith)
-all-byte (b ∷ bs) zero h k = h .0
-all-byte (b ∷ bs) (suc at) h k = all-byte bs at (h .1) (omega arith)
-
 -- the number that stands at a place, as bytes, is what stands there
-pub field-back : (bytes : List ℕ) (at w : ℕ) → AllBytes bytes → at + w ≤ length bytes → drop at bytes ≡ bytes-of w (field bytes at w) ++ drop (at + w) bytes
+pub field-back : (bytes : List ℕ) (at w : ℕ) → AllBelow 256 bytes → at + w ≤ length bytes → drop at bytes ≡ bytes-of w (field bytes at w) ++ drop (at + w) bytes
 unfolding field bytes-of
 field-back bytes at zero h k = ap (λ n. drop n bytes) (sym (add-zero at))
 field-back bytes at (suc w) h k =
-    let b : getD bytes at 0 < 256 = all-byte bytes at h (omega arith) in
+    let b : getD bytes at 0 < 256 = all-getD (λ n. n < 256) bytes at 0 (omega arith) h in
     let r : ℕ = field bytes (at + 1) w in
     let low : (getD bytes at 0 + 256 * r) % 256 ≡ getD bytes at 0 = omega arith in
     let high : (getD bytes at 0 + 256 * r) / 256 ≡ r = omega arith in
@@ -64,10 +60,10 @@ field-back bytes at (suc w) h k =
       ∙ (λ i. sym low i ∷ (bytes-of w (sym high i) ++ drop (place i) bytes))
 
 -- a number that stands in bytes fits them
-pub field-fits : (bytes : List ℕ) (at w : ℕ) → AllBytes bytes → at + w ≤ length bytes → field bytes at w < 256 ^ w
+pub field-fits : (bytes : List ℕ) (at w : ℕ) → AllBelow 256 bytes → at + w ≤ length bytes → field bytes at w < 256 ^ w
 unfolding field
 field-fits bytes at zero h k = omega arith
 field-fits bytes at (suc w) h k =
-    let b : getD bytes at 0 < 256 = all-byte bytes at h (omega arith) in
+    let b : getD bytes at 0 < 256 = all-getD (λ n. n < 256) bytes at 0 (omega arith) h in
     let r : field bytes (at + 1) w < 256 ^ w = field-fits bytes (at + 1) w h (omega arith) in
     rw (pow-succ' 256 w) (omega arith)

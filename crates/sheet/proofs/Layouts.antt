@@ -103,8 +103,8 @@ module _ (items : List ScriptItem) (i at : ℕ) (h : i < length items) (b : Bool
   item-on e = item-here ∙ ap (λ t. require t (fault WrongScript at) (script-end (at + 1) (drop (i + 1) items))) e
 
 -- the tests of a rule, one by one
-within-true : (low high n : ℕ) → low ≤ n → n ≤ high → within low high n ≡ true
-within-true low high n h k = grind (arith, tells)
+pub true-within : (low high n : ℕ) → low ≤ n → n ≤ high → within low high n ≡ true
+true-within low high n h k = grind (arith, tells)
 
 within-false : (low high n : ℕ) → (n < low) ⊎ (high < n) → within low high n ≡ false
 within-false low high n h = grind (arith, tells)
@@ -144,18 +144,18 @@ module _ {V : Type 0} (p : Parts V) where
   module _ (l : 1 ≤ length (p .initial)) (m : length (p .initial) ≤ 256) where
     pub wrong-processes : (p .processes < 1) ⊎ (32 < p .processes) → layout-answer p ≡ Err (fault WrongHeader 4)
     unfolding layout-answer
-    wrong-processes h = require-true _ _ _ (within-true 1 256 (length (p .initial)) l m) ∙ require-false _ _ _ (within-false 1 32 (p .processes) h)
+    wrong-processes h = require-true _ _ _ (true-within 1 256 (length (p .initial)) l m) ∙ require-false _ _ _ (within-false 1 32 (p .processes) h)
 
     module _ (q : 1 ≤ p .processes) (r : p .processes ≤ 32) where
       pub wrong-items : 65535 < length (p .script) → layout-answer p ≡ Err (fault WrongHeader 6)
       unfolding layout-answer
-      wrong-items h = require-true _ _ _ (within-true 1 256 (length (p .initial)) l m) ∙ require-true _ _ _ (within-true 1 32 (p .processes) q r)
+      wrong-items h = require-true _ _ _ (true-within 1 256 (length (p .initial)) l m) ∙ require-true _ _ _ (true-within 1 32 (p .processes) q r)
           ∙ (let e : leb (length (p .script)) 65535 ≡ false = grind (arith, tells) in require-false _ _ _ e)
 
       module _ (n : length (p .script) ≤ 65535) where
         body : layout-answer p ≡ body-rule
         unfolding layout-answer
-        body = require-true _ _ _ (within-true 1 256 (length (p .initial)) l m) ∙ require-true _ _ _ (within-true 1 32 (p .processes) q r)
+        body = require-true _ _ _ (true-within 1 256 (length (p .initial)) l m) ∙ require-true _ _ _ (true-within 1 32 (p .processes) q r)
             ∙ (let e : leb (length (p .script)) 65535 ≡ true = grind (arith, tells) in require-true _ _ _ e)
 
         pub wrong-operation : (f : SheetFault) → operations-end (operations-at p) 4096 (p .operations) ≡ Err f → layout-answer p ≡ Err f

@@ -17,6 +17,6 @@ pub mod WriteBack
 pub mod WriteOperations
 pub mod WriteSheet
 pub mod Putting
-pub mod Lengths
+pub mod Made
 pub mod Layouts
 pub mod Written

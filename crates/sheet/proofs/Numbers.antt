@@ -1,16 +1,17 @@
 -- A number read from the highest byte down: one byte more.
 use mathlib.Core.Path.{_≡_, refl, ap, subst, _∙_}
-use mathlib.Core.List.{List, [], _∷_}
+use mathlib.Core.List.{List}
 use Prim.Native.Nat.{ℕ, zero, suc, _+_, _-_, _*_, _^_, _<_, _≤_}
 use native.Mathlib.Nat.{pow-succ', pow-le-pow-right, sub-self}
 use native.Mathlib.Omega.{arith}
 use mir.Facts.{fits-lt-pow}
-use mir.Syntax.{w8}
-use mir.Val.{Fits}
+use mir.Syntax.{Width}
+use mir.Val.{Fits, bits}
 use lib.Dec.{lit<}
 use lib.ListN.{length, getD, take, drop}
+use Rattle.std.proofs.shelf.Elements.{all-from-getD}
 use Rattle.std.proofs.shelf.Lists.{getD-drop, take-rest}
-use Rattle.sheet.specs.Bytes.{field, AllBytes}
+use Rattle.sheet.specs.Bytes.{field, AllBelow}
 
 -- two bytes, and a number that stands in the rest of a sheet
 pub field-two : (bytes : List ℕ) (at : ℕ) → field bytes at 2 ≡ getD bytes at 0 + getD bytes (at + 1) 0 * 256
@@ -62,7 +63,6 @@ module _ (bytes : List ℕ) (at width i : ℕ) (some : 0 < i) (inside : i ≤ wi
     let p : 256 ^ (width - i) ≤ 256 ^ 7 = pow-le-pow-right (lit< tt) le in
     omega arith
 
--- the elements of a slice of bytes are bytes
-pub all-bytes : (bytes : List ℕ) → ((i : ℕ) → Fits w8 (getD bytes i 0)) → AllBytes bytes
-all-bytes [] fits = tt
-all-bytes (b ∷ rest) fits = (fits-lt-pow (fits 0), all-bytes rest (λ i. fits (suc i)))
+-- the elements of a slice lie below what their width can hold
+pub all-below : {w : Width} (xs : List ℕ) → ((i : ℕ) → Fits w (getD xs i 0)) → AllBelow (2 ^ bits w) xs
+all-below {w} xs fits = all-from-getD (λ n. n < 2 ^ bits w) xs 0 (λ i _. fits-lt-pow (fits i))

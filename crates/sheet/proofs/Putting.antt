@@ -1,7 +1,7 @@
 -- Bytes put into an output: one put after another is one put of both.
 use mathlib.Core.Path.{_≡_, refl, sym, ap, subst, _∙_}
 use mathlib.Core.List.{List, [], _∷_, _++_}
-use Prim.Native.Nat.{ℕ, zero, suc, _+_, _/_, _%_, _<_, _≤_}
+use Prim.Native.Nat.{ℕ, suc, _+_, _/_, _%_, _<_, _≤_}
 use native.Mathlib.Nat.{add-zero}
 use native.Mathlib.Omega.{arith}
 use lib.ListN.{length, set, getD, drop}
@@ -26,12 +26,7 @@ put-put out at (x ∷ xs) ys =
     let e : at + suc (length xs) ≡ (at + 1) + length xs = omega arith in
     ap (λ n. put (put (set out at x) (at + 1) xs) n ys) e ∙ put-put (set out at x) (at + 1) xs ys
 
--- a number has as many bytes as it is given; none, and the first with the others
-pub length-bytes-of : (width n : ℕ) → length (bytes-of width n) ≡ width
-unfolding bytes-of
-length-bytes-of zero n = refl
-length-bytes-of (suc width) n = ap suc (length-bytes-of width (n / 256))
-
+-- a number of no bytes, and the first byte with the others
 pub put-no-bytes : (out : List ℕ) (at n : ℕ) → put out at (bytes-of 0 n) ≡ out
 unfolding put bytes-of
 put-no-bytes out at n = refl

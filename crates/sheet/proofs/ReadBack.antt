@@ -18,10 +18,10 @@ use Rattle.sheet.specs.declared.fault.SheetRefusal.the-variants.{WrongScript, 
 use Rattle.sheet.specs.declared.parts.Operand.{Operand}
 use Rattle.sheet.specs.declared.parts.ScriptItem.{ScriptItem}
 use Rattle.sheet.specs.declared.parts.ScriptItem.the-variants.{Start, Step}
-use Rattle.sheet.specs.Bytes.{field, bytes-of}
+use Rattle.sheet.specs.Bytes.{field, bytes-of, AllBelow}
 use Rattle.sheet.specs.declared.fault.SheetFault.{SheetFault}
 use Rattle.sheet.specs.Faults.{fault, followed}
-use Rattle.sheet.specs.Parts.{Locations, Operands}
+use Rattle.sheet.specs.Parts.{Operands}
 use Rattle.sheet.specs.Format.{operand-bytes, item-byte, location-bytes, expected-bytes, value-bytes}
 use Rattle.sheet.specs.Reading.{item-of, unused, locations-from, script-answer, value-answer, values-answer, operand-answer, operands-answer}
 use Rattle.sheet.specs.Writing.{writable, script-end}
@@ -61,7 +61,7 @@ module _ (bytes : List ℕ) where
       (field-read bytes at 2 a (bytes-of 8 c ++ rest) h (p .0), field-read bytes (at + 2) 8 c rest k (p .1), next bytes at 10 (operand-bytes a c) rest (operand-length a c) e)
 
   module _ {V : Type 0} (code : V → ℕ) where
-    pub locations-read : (at : ℕ) (ls : List ℕ) (rest : List ℕ) → Locations ls → drop at bytes ≡ joined (location-bytes code) ls ++ rest → (unused bytes at (length ls) ≡ true) × (locations-from bytes at (length ls) ≡ ls)
+    pub locations-read : (at : ℕ) (ls : List ℕ) (rest : List ℕ) → AllBelow 65536 ls → drop at bytes ≡ joined (location-bytes code) ls ++ rest → (unused bytes at (length ls) ≡ true) × (locations-from bytes at (length ls) ≡ ls)
     unfolding unused locations-from
     locations-read at [] rest h e = (refl, refl)
     locations-read at (a ∷ ls) rest h e =

@@ -10,7 +10,6 @@ use Rattle.std.specs.Joined.{joined}
 use Rattle.std.specs.declared.option.Option.{Option}
 use Rattle.std.specs.declared.option.Option.the-variants.{Some}
 use Rattle.std.specs.declared.result.Result.the-variants.{Ok}
-use Rattle.std.proofs.shelf.Ways.{tells}
 use Rattle.std.proofs.shelf.Tests.{and-from, le-leb, lt-leb, cond-true, cond-false}
 use Rattle.sheet.specs.declared.kind.OperationKind.{OperationKind}
 use Rattle.sheet.specs.declared.kind.OperationKind.the-variants.{Read, Ll, Sc, Snapshot, Kcss}
@@ -23,6 +22,7 @@ use Rattle.sheet.specs.Format.{act-kind, act-count, size-by, sizes, new-code, 
 use Rattle.sheet.specs.Reading.{unused, head-fits, head-by, head-answer, value-answer, operands-answer, action-by, action-answer, operation-answer, operations-answer}
 use Rattle.sheet.specs.Writing.{operations-end}
 use Rattle.sheet.proofs.Fields.{bytes-length, byte-at, byte-past, drop-past, peel, field-read}
+use Rattle.sheet.proofs.Layouts.{counted-small}
 use Rattle.sheet.proofs.Steps.{never-ok, ok-same, pass, passed, gather, go-on}
 use Rattle.sheet.proofs.Sizes.{op-length}
 use Rattle.sheet.proofs.ReadBack.{locations-read, location-read, value-by, operands-read}
@@ -34,13 +34,6 @@ kind-read Sc = refl
 kind-read Snapshot = refl
 kind-read Kcss = refl
 
-few : (k : OperationKind) (n : ℕ) → counted k n ≡ true → n ≤ 16
-few Read n h = grind (arith, tells)
-few Ll n h = grind (arith, tells)
-few Sc n h = grind (arith, tells)
-few Snapshot n h = grind (arith, tells)
-few Kcss n h = grind (arith, tells)
-
 -- operations that are laid out end after all of them
 pub ends : {V : Type 0} (at left end : ℕ) (ops : List (Op V)) → operations-end at left ops ≡ Ok end → (end ≡ at + sizes ops) × (length ops ≤ left) × (sizes ops ≤ 172 * left)
 unfolding operations-end
@@ -49,7 +42,7 @@ ends at zero end (o ∷ ops) h = never-ok (fault WrongOperation at) end h
 ends at (suc left) end (o ∷ ops) h =
     let p = passed (counted (act-kind (o .act)) (act-count (o .act))) (fault WrongOperation at) (operations-end (at + size-by (act-count (o .act))) left ops) end h in
     let ih = ends (at + size-by (act-count (o .act))) left end ops (p .1) in
-    let small = few (act-kind (o .act)) (act-count (o .act)) (p .0) in
+    let small = counted-small (act-kind (o .act)) (act-count (o .act)) (p .0) in
     omega arith
 
 module _ (bytes : List ℕ) {V : Type 0} (code : V → ℕ) where
@@ -154,5 +147,5 @@ module _ (bytes : List ℕ) {V : Type 0} (code : V → ℕ) where
         let d = parted small at o (more ++ rest) (q .0) in
         cond-false (leb end at) (Ok []) _ (lt-leb end at (omega arith))
           ∙ gather (operation-answer decode bytes end at) (operations-answer decode bytes end left (at + size-by (getD bytes (at + 2) 0))) o ops
-              (operation-read at end o (more ++ rest) (h .0 .1) (p .0) (omega arith) d)
+              (operation-read at end o (more ++ rest) (h .0) (p .0) (omega arith) d)
               (ap (λ x. operations-answer decode bytes end left (at + size-by x)) (d .count-byte) ∙ operations-read (at + size-by n) left end ops rest (h .1) (p .1) (q .1))

@@ -24,7 +24,8 @@ use Rattle.sheet.proofs.Steps.{pass, go-on}
 use Rattle.sheet.proofs.Sizes.{joined-length, ops-length, sheet-length}
 use Rattle.sheet.proofs.ReadBack.{script-read, values-read}
 use Rattle.sheet.proofs.ReadOperations.{ends, operations-read}
-use Rattle.sheet.proofs.Accepted.{true-within, Laid, laid}
+use Rattle.sheet.proofs.Accepted.{Laid, laid}
+use Rattle.sheet.proofs.Layouts.{true-within}
 
 module _ {V : Type 0} (code : V → ℕ) (number : ℕ) (p : Parts V) (bytes body : List ℕ) where
   -- what stands in a header

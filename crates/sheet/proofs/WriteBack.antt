@@ -19,7 +19,7 @@ use Rattle.sheet.specs.declared.fault.SheetRefusal.the-variants.{WrongScript, 
 use Rattle.sheet.specs.declared.parts.Operand.{Operand}
 use Rattle.sheet.specs.declared.parts.ScriptItem.{ScriptItem}
 use Rattle.sheet.specs.declared.parts.ScriptItem.the-variants.{Start, Step}
-use Rattle.sheet.specs.Bytes.{field, bytes-of, AllBytes}
+use Rattle.sheet.specs.Bytes.{field, bytes-of, AllBelow}
 use Rattle.sheet.specs.declared.fault.SheetFault.{SheetFault}
 use Rattle.sheet.specs.Faults.{fault, followed}
 use Rattle.sheet.specs.Format.{operand-bytes, item-byte, location-bytes, expected-bytes, value-bytes}
@@ -86,7 +86,7 @@ module _ (bytes : List ℕ) where
         subst (Filled at (suc n)) (sym (s .whole)) (ap suc (ih .0), join at (at + w) (at + w * suc n) (f (s .first)) (joined f (s .others)) (back at (s .first) (omega arith) (s .first-is))
           (up-to (at + w) (at + w + w * n) (at + w * suc n) (joined f (s .others)) place (ih .1)))
 
-  module _ (all : AllBytes bytes) where
+  module _ (all : AllBelow 256 bytes) where
     operand-back : (at : ℕ) → at + 10 ≤ length bytes → drop at bytes ≡ operand-bytes (field bytes at 2) (field bytes (at + 2) 8) ++ drop (at + 10) bytes
     operand-back at h =
         let place : at + 2 + 8 ≡ at + 10 = omega arith in

@@ -20,7 +20,7 @@ use Rattle.sheet.specs.declared.kind.OperationKind.the-variants.{Read, Ll, Sc,
 use Rattle.sheet.specs.declared.fault.SheetRefusal.the-variants.{WrongOperation}
 use Rattle.sheet.specs.declared.fault.SheetFault.{SheetFault}
 use Rattle.sheet.specs.declared.head.OperationHead.{OperationHead}
-use Rattle.sheet.specs.Bytes.{field, bytes-of, AllBytes}
+use Rattle.sheet.specs.Bytes.{field, bytes-of, AllBelow}
 use Rattle.sheet.specs.Faults.{fault, followed}
 use Rattle.sheet.specs.Kinds.{kind-number, kind-of, counted, takes-new, takes-expected}
 use Rattle.sheet.specs.Parts.{Act, sc, kcss, Op}
@@ -98,7 +98,7 @@ module _ (bytes : List ℕ) where
       pub laid : operations-end at left ops ≡ Ok end
       pub stands : drop at bytes ≡ joined (op-bytes code) ops ++ drop end bytes
 
-  module _ (all : AllBytes bytes) {V : Type 0} (code : V → ℕ) where
+  module _ (all : AllBelow 256 bytes) {V : Type 0} (code : V → ℕ) where
     one-back : (at count : ℕ) → at + size-by count ≤ length bytes → eqb count 1 ≡ true → unused bytes (at + 12) count ≡ true
       → (1 ≡ count) × (drop (at + 12) bytes ≡ location-bytes code (field bytes (at + 12) 2) ++ drop (at + size-by count) bytes)
     one-back at count h c u =

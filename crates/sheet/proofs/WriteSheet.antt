@@ -13,7 +13,7 @@ use Rattle.std.specs.declared.result.Result.the-variants.{Ok}
 use Rattle.std.proofs.shelf.Lists.{append-nil, drop-more, drop-all}
 use Rattle.std.proofs.shelf.Tests.{and-parts, leb-true, eqb-true}
 use Rattle.sheet.specs.declared.header.Header.{Header}
-use Rattle.sheet.specs.Bytes.{field, bytes-of, AllBytes}
+use Rattle.sheet.specs.Bytes.{field, bytes-of, AllBelow}
 use Rattle.sheet.specs.Parts.{Parts}
 use Rattle.sheet.specs.Format.{operations-at, script-at, total, item-byte, op-bytes, value-bytes, header-bytes, sheet-bytes}
 use Rattle.sheet.specs.Reading.{within, starts, header-answer, values-answer, operations-answer, script-answer, joined-answer, body-answer, read-answer}
@@ -76,7 +76,7 @@ module _ (bytes : List ℕ) where
   front = getD bytes 0 0 ∷ getD bytes 1 0 ∷ (bytes-of 2 (field bytes 2 2) ++ (bytes-of 2 (field bytes 4 2) ++ (bytes-of 2 (field bytes 6 2)
     ++ (bytes-of 4 (field bytes 8 4) ++ (bytes-of 4 (field bytes 12 4) ++ (bytes-of 4 (field bytes 16 4) ++ bytes-of 4 (field bytes 20 4)))))))
 
-  front-back : AllBytes bytes → 24 ≤ length bytes → bytes ≡ front ++ drop 24 bytes
+  front-back : AllBelow 256 bytes → 24 ≤ length bytes → bytes ≡ front ++ drop 24 bytes
   unfolding front
   front-back all h =
       let fields = join bytes 2 4 24 _ _ (field-back bytes 2 2 all (omega arith)) (join bytes 4 6 24 _ _ (field-back bytes 4 2 all (omega arith)) (join bytes 6 8 24 _ _ (field-back bytes 6 2 all (omega arith))
@@ -98,7 +98,7 @@ module _ (bytes : List ℕ) where
       script : Scripted bytes (field bytes 16 4) (field bytes 6 2) (p .script)
       begins : starts (p .script) ≡ length (p .operations)
 
-    module _ (all : AllBytes bytes) where
+    module _ (all : AllBelow 256 bytes) where
       body-back : (decode : ℕ → Option V) (kept : (c : ℕ) (v : V) → decode c ≡ Some v → code v ≡ c) (p : Parts V) → Headed number → body-answer decode bytes header-of ≡ Ok p → Parted p
       unfolding body-answer header-of
       body-back decode kept p d e =

@@ -2,6 +2,7 @@
 use mathlib.Core.List.{List, [], _∷_, _++_}
 use Prim.Native.Nat.{ℕ, zero, suc, _+_, _*_, _/_, _%_, _<_}
 use lib.ListN.{length, getD, set, drop}
+use Rattle.std.specs.shelf.Lists.{All}
 
 -- the number in the `width` bytes from `at` on
 unfoldable pub field : List ℕ → ℕ → ℕ → ℕ
@@ -22,7 +23,6 @@ put out at (b ∷ bs) = put (set out at b) (at + 1) bs
 abbrev pub overwritten : List ℕ → List ℕ → List ℕ
 overwritten bs out = bs ++ drop (length bs) out
 
--- each of the numbers is a byte
-abbrev pub AllBytes : List ℕ → Type 0
-AllBytes [] = Unit {0}
-AllBytes (b ∷ bs) = (b < 256) × AllBytes bs
+-- each of the numbers lies below a bound
+abbrev pub AllBelow : ℕ → List ℕ → Type 0
+AllBelow bound = All (λ n. n < bound)

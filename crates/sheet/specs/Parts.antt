@@ -1,13 +1,15 @@
 -- What a run sheet says, with lists in the place of the code's vectors.
-use mathlib.Core.List.{List, [], _∷_, map}
+use mathlib.Core.List.{List, map}
 use Prim.Native.Nat.{ℕ, _<_}
 use Rattle.std.specs.Of.Vec.{vec-items}
+use Rattle.std.specs.shelf.Lists.{All}
 use Rattle.sheet.specs.declared.parts.Operand.{Operand}
 use Rattle.sheet.specs.declared.parts.Action.{Action}
 use Rattle.sheet.specs.declared.parts.Action.the-variants.{Read, Ll, Sc, Snapshot, Kcss}
 use Rattle.sheet.specs.declared.parts.Operation.{Operation}
 use Rattle.sheet.specs.declared.parts.ScriptItem.{ScriptItem}
 use Rattle.sheet.specs.declared.parts.Sheet.{Sheet}
+use Rattle.sheet.specs.Bytes.{AllBelow}
 
 -- what an operation is to do
 pub data Act (V : Type 0) : Type 0 where
@@ -40,23 +42,17 @@ op-of o = record { process = o .process; act = act-of (o .action) }
 abbrev pub parts-of : {V : Type 0} → Sheet V → Parts V
 parts-of s = record { initial = vec-items (s .initial); processes = s .processes; operations = map op-of (vec-items (s .operations)); script = vec-items (s .script) }
 
--- A location fits two bytes and a process number one. The code's types see to that; as numbers of these
--- definitions they have no bound.
-abbrev pub Locations : List ℕ → Type 0
-Locations [] = Unit {0}
-Locations (a ∷ rest) = (a < 65536) × Locations rest
-
+-- A location fits two bytes. The code's types see to that; as numbers of these definitions locations have
+-- no bound.
 abbrev pub Operands : {V : Type 0} → List (Operand V) → Type 0
-Operands [] = Unit {0}
-Operands (o ∷ rest) = (o .location < 65536) × Operands rest
+Operands = All (λ o. o .location < 65536)
 
 abbrev pub Fitting : {V : Type 0} → Act V → Type 0
 Fitting (read a) = a < 65536
 Fitting (ll a) = a < 65536
 Fitting (sc a v) = a < 65536
-Fitting (snapshot locations) = Locations locations
+Fitting (snapshot locations) = AllBelow 65536 locations
 Fitting (kcss v operands) = Operands operands
 
 abbrev pub AllFitting : {V : Type 0} → List (Op V) → Type 0
-AllFitting [] = Unit {0}
-AllFitting (o ∷ rest) = ((o .process < 256) × Fitting (o .act)) × AllFitting rest
+AllFitting = All (λ o. Fitting (o .act))

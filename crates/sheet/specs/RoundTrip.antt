@@ -4,8 +4,8 @@ use mathlib.Core.Path.{_≡_}
 use Prim.Native.Nat.{ℕ, _≤_}
 use lib.ListN.{length, take}
 use Rattle.std.specs.declared.option.Option.{Option}
-use Rattle.std.specs.declared.result.Result.the-variants.{Ok, Err}
-use Rattle.sheet.specs.Bytes.{AllBytes}
+use Rattle.std.specs.declared.result.Result.the-variants.{Ok}
+use Rattle.sheet.specs.Bytes.{AllBelow}
 use Rattle.sheet.specs.Parts.{Parts, AllFitting}
 use Rattle.sheet.specs.Format.{sheet-bytes}
 use Rattle.sheet.specs.Reading.{read-answer}
@@ -24,4 +24,4 @@ module _ {V : Type 0} (code : V → ℕ) (decode : ℕ → Option V) (number : �
 
   -- what reading accepts, writing gives back byte for byte
   abbrev pub ReadThenWrite : List ℕ → Type 0
-  ReadThenWrite bytes = (p : Parts V) → AllBytes bytes → read-answer decode bytes number ≡ Ok p → GivesBack code number p bytes
+  ReadThenWrite bytes = (p : Parts V) → AllBelow 256 bytes → read-answer decode bytes number ≡ Ok p → GivesBack code number p bytes

@@ -19,7 +19,7 @@ use value::ValueKind;
 pub const HEADER_LENGTH: usize = 24;
 
 // A sheet has at most so many operations.
-const MOST_OPERATIONS: usize = 4096;
+pub const MOST_OPERATIONS: usize = 4096;
 
 // Where operations that begin at `at` end. A count that is not of its kind, or one operation too many,
 // is refused where that operation begins.

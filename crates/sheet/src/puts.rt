@@ -1,13 +1,13 @@
 // The parts of a sheet put into an output, each from a given place on. Each call returns the place where
-// the next part goes.
+// the next part goes, and says that the locations fit their two bytes, which their type sees to.
 ghost use mathlib.Core.List.{map};
 ghost use mathlib.Core.Path.{_≡_};
 ghost use Prim.Native.Nat.{_<_};
 ghost use Rattle.std.specs.Of.Vec.{vec-items};
 ghost use Rattle.std.specs.Joined.{joined};
-ghost use Rattle.sheet.specs.Bytes.{bytes-of};
+ghost use Rattle.sheet.specs.Bytes.{bytes-of, AllBelow};
 ghost use Rattle.sheet.specs.Format.{operand-bytes, item-byte, expected-bytes, operands-bytes, op-bytes, value-bytes, act-count, header-bytes, sheet-bytes, total};
-ghost use Rattle.sheet.specs.Parts.{act-of, op-of, parts-of};
+ghost use Rattle.sheet.specs.Parts.{act-of, op-of, parts-of, Operands, Fitting, AllFitting};
 ghost use Rattle.sheet.specs.Puts.{Room, Puts, Small, field-bytes};
 use crate::layout::HEADER_LENGTH;
 use crate::parts::Action;
@@ -57,7 +57,8 @@ fn put_values<V: ValueKind>(out: &mut [u8], at: usize, values: &[V]) -> usize
 // A location and an expected code.
 fn put_operand(out: &mut [u8], at: usize, location: u16, code: u64) -> usize
     requires { ⌜ Room (now out) at (operand-bytes location code) ⌝ }
-    ensures { λ r. ⌜ Puts (now (out .entry)) at (operand-bytes location code) (now (out .exit)) r ⌝ }
+    ensures puts { λ r. ⌜ Puts (now (out .entry)) at (operand-bytes location code) (now (out .exit)) r ⌝ }
+    ensures fits { λ _. ⌜ location < 65536 ⌝ }
 {
     let next = put_number(out, at, 2, location as u64);
     put_number(out, next, 8, code)
@@ -66,7 +67,8 @@ fn put_operand(out: &mut [u8], at: usize, location: u16, code: u64) -> usize
 // Locations, each with no expected code.
 fn put_locations(out: &mut [u8], at: usize, locations: &[u16]) -> usize
     requires { ⌜ Room (now out) at (joined (λ a. operand-bytes a 0) (now locations)) ⌝ }
-    ensures { λ r. ⌜ Puts (now (out .entry)) at (joined (λ a. operand-bytes a 0) (now (locations .entry))) (now (out .exit)) r ⌝ }
+    ensures puts { λ r. ⌜ Puts (now (out .entry)) at (joined (λ a. operand-bytes a 0) (now (locations .entry))) (now (out .exit)) r ⌝ }
+    ensures fits { λ _. ⌜ AllBelow 65536 (now (locations .entry)) ⌝ }
 {
     let mut next = at;
     for location in locations {
@@ -78,7 +80,8 @@ fn put_locations(out: &mut [u8], at: usize, locations: &[u16]) -> usize
 // Locations, each with the code of its expected value.
 fn put_expected<V: ValueKind>(out: &mut [u8], at: usize, operands: &[Operand<V>]) -> usize
     requires { ⌜ Room (now out) at (joined (expected-bytes coded) (now operands)) ⌝ }
-    ensures { λ r. ⌜ Puts (now (out .entry)) at (joined (expected-bytes coded) (now (operands .entry))) (now (out .exit)) r ⌝ }
+    ensures puts { λ r. ⌜ Puts (now (out .entry)) at (joined (expected-bytes coded) (now (operands .entry))) (now (out .exit)) r ⌝ }
+    ensures fits { λ _. ⌜ Operands (now (operands .entry)) ⌝ }
 {
     let mut next = at;
     for operand in operands {
@@ -90,7 +93,8 @@ fn put_expected<V: ValueKind>(out: &mut [u8], at: usize, operands: &[Operand<V>]
 // The locations that an action names, with the codes that it expects there.
 fn put_operands<V: ValueKind>(out: &mut [u8], at: usize, action: &Action<V>) -> usize
     requires { ⌜ Room (now out) at (operands-bytes coded (act-of (now action))) ⌝ }
-    ensures { λ r. ⌜ Puts (now (out .entry)) at (operands-bytes coded (act-of (now (action .entry)))) (now (out .exit)) r ⌝ }
+    ensures puts { λ r. ⌜ Puts (now (out .entry)) at (operands-bytes coded (act-of (now (action .entry)))) (now (out .exit)) r ⌝ }
+    ensures fits { λ _. ⌜ Fitting (act-of (now (action .entry))) ⌝ }
 {
     match action {
         Action::Read(location) | Action::Ll(location) | Action::Sc { location, .. } => put_operand(
@@ -108,7 +112,8 @@ fn put_operands<V: ValueKind>(out: &mut [u8], at: usize, action: &Action<V>) -> 
 fn put_operation<V: ValueKind>(out: &mut [u8], at: usize, operation: &Operation<V>) -> usize
     requires room { ⌜ Room (now out) at (op-bytes coded (op-of (now operation))) ⌝ }
     requires small { ⌜ act-count (act-of (now operation .action)) < 256 ⌝ }
-    ensures { λ r. ⌜ Puts (now (out .entry)) at (op-bytes coded (op-of (now (operation .entry)))) (now (out .exit)) r ⌝ }
+    ensures puts { λ r. ⌜ Puts (now (out .entry)) at (op-bytes coded (op-of (now (operation .entry)))) (now (out .exit)) r ⌝ }
+    ensures fits { λ _. ⌜ Fitting (act-of (now (operation .entry) .action)) ⌝ }
 {
     let action = &operation.action;
     let head = [
@@ -126,7 +131,8 @@ fn put_operation<V: ValueKind>(out: &mut [u8], at: usize, operation: &Operation<
 fn put_operations<V: ValueKind>(out: &mut [u8], at: usize, operations: &[Operation<V>]) -> usize
     requires room { ⌜ Room (now out) at (joined (op-bytes coded) (map op-of (now operations))) ⌝ }
     requires small { ⌜ Small (now operations) ⌝ }
-    ensures { λ r. ⌜ Puts (now (out .entry)) at (joined (op-bytes coded) (map op-of (now (operations .entry)))) (now (out .exit)) r ⌝ }
+    ensures puts { λ r. ⌜ Puts (now (out .entry)) at (joined (op-bytes coded) (map op-of (now (operations .entry)))) (now (out .exit)) r ⌝ }
+    ensures fits { λ _. ⌜ AllFitting (map op-of (now (operations .entry))) ⌝ }
 {
     let mut next = at;
     for operation in operations {
@@ -174,7 +180,8 @@ pub fn put_sheet<V: ValueKind>(out: &mut [u8], sheet: &Sheet<V>, end: usize) -> 
     requires room { ⌜ Room (now out) 0 (sheet-bytes coded number (parts-of (now sheet))) ⌝ }
     requires whole { ⌜ end ≡ total (parts-of (now sheet)) ⌝ }
     requires small { ⌜ Small (vec-items (now sheet .operations)) ⌝ }
-    ensures { λ r. ⌜ Puts (now (out .entry)) 0 (sheet-bytes coded number (parts-of (now (sheet .entry)))) (now (out .exit)) r ⌝ }
+    ensures puts { λ r. ⌜ Puts (now (out .entry)) 0 (sheet-bytes coded number (parts-of (now (sheet .entry)))) (now (out .exit)) r ⌝ }
+    ensures fits { λ _. ⌜ AllFitting (parts-of (now (sheet .entry)) .operations) ⌝ }
 {
     let values_at = put_header(out, sheet, end);
     let operations_at = put_values(out, values_at, &sheet.initial);

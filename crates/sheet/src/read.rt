@@ -14,6 +14,7 @@ use crate::fault::ReadErrorFromFault;
 use crate::fault::ReadErrorFromRefused;
 use crate::fault::SheetFault;
 use crate::fault::SheetRefusal;
+use crate::layout::MOST_OPERATIONS;
 use crate::layout::start_count;
 use crate::parts::Operation;
 use crate::parts::Sheet;
@@ -23,9 +24,6 @@ use crate::read_lists::read_values;
 use crate::read_operation::read_operation;
 use std::alloc::Global;
 use value::ValueKind;
-
-// The most operations that a sheet may hold.
-const MOST_OPERATIONS: usize = 4096;
 
 // The operations from `at` on, up to the script at `end`.
 fn read_operations<V: ValueKind>(

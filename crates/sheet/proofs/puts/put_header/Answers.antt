@@ -1,7 +1,7 @@
 use mathlib.Core.Path.{sym, ap, _∙_}
 use Rattle.sheet.specs.Format.{header-bytes}
 use Rattle.sheet.specs.Parts.{parts-of}
-use Rattle.sheet.proofs.Lengths.{header-made}
+use Rattle.sheet.proofs.Made.{header-made}
 use Rattle.sheet.proofs.Putting.{puts-as, room-as}
 use Rattle.sheet.proofs.puts.put_header.Needs as need
 

@@ -4,17 +4,18 @@ use native.Mathlib.Omega.{arith}
 use borrow.Author.Needs.{needs}
 use lib.ListN.{set}
 use Rattle.sheet.specs.Bytes.{put, bytes-of}
-use Rattle.sheet.proofs.Putting.{length-bytes-of, put-bytes-of, put-no-bytes}
+use Rattle.sheet.proofs.Fields.{bytes-length}
+use Rattle.sheet.proofs.Putting.{put-bytes-of, put-no-bytes}
 use Rattle.sheet.proofs.puts.put_number.Needs as need
 
 pub add-out : need.add-out
-add-out c = let w = length-bytes-of (c .args .width) (c .args .number) in search needs
+add-out c = let w = bytes-length (c .args .width) (c .args .number) in search needs
 
 pub index-out-at : need.index-out-at
-index-out-at c = omega (arith, length-bytes-of (c .args .width) (c .args .number))
+index-out-at c = omega (arith, bytes-length (c .args .width) (c .args .number))
 
 pub add-result : need.add-result
-add-result c = let w = length-bytes-of (c .args .width) (c .args .number) in search needs
+add-result c = let w = bytes-length (c .args .width) (c .args .number) in search needs
 
 pub loop-i-holds : need.loop-i-holds
 loop-i-holds c =
@@ -45,5 +46,5 @@ returns c =
     let w : c .args .width - c .loop-i .i ≡ 0 = omega arith in
     record {
       leaves = sym (put-no-bytes out at n) ∙ sym (ap (λ k. put out at (bytes-of k n)) w) ∙ c .loop-i .inv;
-      ends = ap (λ k. c .args .at + k) (sym (length-bytes-of (c .args .width) (c .args .number)));
+      ends = ap (λ k. c .args .at + k) (sym (bytes-length (c .args .width) (c .args .number)));
     }

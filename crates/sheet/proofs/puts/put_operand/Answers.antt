@@ -1,3 +1,4 @@
+use mir.Facts.{fits-lt-pow}
 use Rattle.sheet.specs.Bytes.{bytes-of}
 use Rattle.sheet.proofs.Putting.{first-room, then-room, then-puts}
 use Rattle.sheet.proofs.puts.put_operand.Needs as need
@@ -9,4 +10,4 @@ pub put-number-requires : need.put-number-requires
 put-number-requires c κs = then-room (bytes-of 8 (c .args .code)) (c .put-number-next .ensures) (c .pre)
 
 pub returns : need.returns
-returns c = then-puts (c .put-number-next .ensures) (c .put-number .ensures)
+returns c = record { puts = then-puts (c .put-number-next .ensures) (c .put-number .ensures); fits = fits-lt-pow (c .fits .location) }

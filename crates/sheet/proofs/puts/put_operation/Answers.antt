@@ -6,7 +6,7 @@ use Rattle.sheet.specs.Format.{operands-bytes}
 use Rattle.sheet.specs.Kinds.{kind-number}
 use Rattle.sheet.specs.Parts.{act-of, op-of}
 use Rattle.sheet.specs.Puts.{field-bytes}
-use Rattle.sheet.proofs.Lengths.{op-made}
+use Rattle.sheet.proofs.Made.{op-made}
 use Rattle.sheet.proofs.Putting.{puts-as, room-as, first-room, then-room, then-puts}
 use Rattle.sheet.proofs.puts.put_operation.Needs as need
 
@@ -23,4 +23,4 @@ put-operands-requires g c κs =
 pub returns : need.returns
 returns g c =
     let made = op-made (g .V·ValueKind .coded) (op-of (c .args .operation .now)) (c .number .result) (c .count .result) (c .new-code .result) (c .number .ensures ∙ ap kind-number (c .kind .ensures)) (c .count .ensures) (c .new-code .ensures) (c .number .ok) (omega arith) (omega arith) in
-    puts-as made (then-puts (c .put-fields-next .ensures) (c .put-operands .ensures))
+    record { puts = puts-as made (then-puts (c .put-fields-next .ensures) (c .put-operands .ensures .puts)); fits = c .put-operands .ensures .fits }

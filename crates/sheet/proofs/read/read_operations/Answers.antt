@@ -1,4 +1,4 @@
-use mathlib.Core.List.{map, _∷_, [], _++_}
+use mathlib.Core.List.{map, _∷_, []}
 use mathlib.Core.Path.{_≡_, sym, ap, refl, _∙_}
 use Prim.Native.Nat.{_+_, _<_}
 use native.Mathlib.Omega.{arith}

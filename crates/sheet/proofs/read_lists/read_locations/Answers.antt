@@ -1,7 +1,7 @@
 use mathlib.Core.List.{_∷_, []}
-use mathlib.Core.Path.{sym, ap, _∙_, refl}
+use mathlib.Core.Path.{sym, ap, refl}
 use Rattle.std.specs.Of.Vec.{vec-items}
-use Rattle.std.specs.declared.result.Result.the-variants.{Ok, Err}
+use Rattle.std.specs.declared.result.Result.the-variants.{Ok}
 use Rattle.std.proofs.shelf.Parts.{pushed}
 use Rattle.sheet.proofs.Answering.{kept-first, kept-more, kept-all}
 use Rattle.sheet.proofs.Rows.{locations-row}

@@ -1,9 +1,9 @@
-use mathlib.Core.Path.{_≡_, sym, ap, _∙_}
+use mathlib.Core.Path.{sym, ap, _∙_}
 use native.Mathlib.Omega.{arith}
 use Rattle.std.proofs.shelf.Results.{made-from-err}
 use Rattle.sheet.specs.Faults.{then}
 use Rattle.sheet.specs.Reading.{action-by, action-answer, operation-answer}
-use Rattle.std.specs.declared.result.Result.the-variants.{Ok, Err}
+use Rattle.std.specs.declared.result.Result.the-variants.{Ok}
 use Rattle.sheet.proofs.Exits.{exit-fault, exit-error}
 use Rattle.sheet.proofs.Heads.{head-shape}
 use Rattle.sheet.proofs.read_operation.read_operation.Needs as need

@@ -4,8 +4,7 @@ use mathlib.Core.Path.{_≡_, sym, ap, _∙_}
 use native.Mathlib.Omega.{arith}
 use lib.Dec.{eqb}
 use lib.ListN.{length}
-use Rattle.std.specs.Of.Vec.{vec-items, vec-len}
-use Rattle.std.specs.declared.result.Result.the-variants.{Ok, Err}
+use Rattle.std.specs.Of.Vec.{vec-items}
 use Rattle.std.proofs.shelf.Lists.{length-map}
 use Rattle.std.proofs.shelf.Results.{made-from-err}
 use Rattle.std.proofs.shelf.Ways.{tells}
@@ -13,7 +12,7 @@ use Rattle.sheet.specs.Parts.{op-of}
 use Rattle.sheet.specs.Reading.{header-answer, values-answer, operations-answer, script-answer, starts}
 use Rattle.sheet.proofs.Exits.{exit-fault, exit-error}
 use Rattle.sheet.proofs.Whole.{header-refused, values-refused, operations-refused, script-refused, sheet-judged}
-use Rattle.sheet.proofs.Numbers.{all-bytes}
+use Rattle.sheet.proofs.Numbers.{all-below}
 use Rattle.sheet.proofs.WriteSheet.{read-then-write}
 use Rattle.sheet.proofs.parts.Sheet.read.Needs as need
 
@@ -87,4 +86,4 @@ returns g c =
     let same = c .if-start-count-len .left in
     let test : eqb (starts items) (length (map op-of (vec-items ops))) ≡ true = grind (arith, tells) in
     let judged = sheet-judged (g .V·ValueKind .decoded) bytes (g .V·ValueKind .number) _ header _ (c .in-Continue-initial .ensures tt) _ (c .in-Continue-operations .ensures tt) _ _ (c .in-Continue-script .ensures tt) test in
-    record { answer = judged; returns = read-then-write (g .V·ValueKind .coded) (g .V·ValueKind .decoded) (g .V·ValueKind .number) (g .V·ValueKind·met .kept) bytes _ (all-bytes bytes (c .typed .bytes)) judged }
+    record { answer = judged; returns = read-then-write (g .V·ValueKind .coded) (g .V·ValueKind .decoded) (g .V·ValueKind .number) (g .V·ValueKind·met .kept) bytes _ (all-below bytes (c .typed .bytes)) judged }
