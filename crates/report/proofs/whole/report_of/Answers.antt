@@ -1,0 +1,5 @@
+use Rattle.sheet.specs.Parts.{parts-of}
+use Rattle.report.proofs.whole.report_of.Needs as need
+
+pub report-sheet-requires : need.report-sheet-requires
+report-sheet-requires g c κs = ?
