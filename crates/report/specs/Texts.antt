@@ -6,12 +6,12 @@ use Prim.Native.Nat.{ℕ, _+_}
 use lib.Dec.{eqb}
 use lib.ListN.{length, getD}
 use Rattle.std.specs.Of.String.{string-bytes}
-use Rattle.std.specs.Options.{Cases as BySome}
 use Rattle.std.specs.Results.{isOk}
 use Rattle.std.specs.Vec.{made}
-use Rattle.std.specs.declared.option.Option.{Option}
 use Rattle.std.specs.declared.result.Result.{Result}
 use Rattle.std.specs.declared.result.Result.the-variants.{Ok, Err}
+use Rattle.value.specs.declared.link.Link.{Link}
+use Rattle.value.specs.declared.number.Number.{Number}
 use Rattle.value.specs.Codes.{number-of, link-code, link-of}
 use Rattle.sheet.specs.declared.fault.SheetFault.{SheetFault}
 use Rattle.sheet.specs.declared.parts.ScriptItem.{ScriptItem}
@@ -60,13 +60,17 @@ module _ {V : Type 0} (code : V → ℕ) (number : ℕ) where
 abbrev pub is-links : List ℕ → Bool
 is-links bytes = eqb (getD bytes 1 0) 2
 
+abbrev pub links-answer : List ℕ → Result (Parts Link) SheetFault
+links-answer bytes = read-answer link-of bytes 2
+
+abbrev pub numbers-answer : List ℕ → Result (Parts Number) SheetFault
+numbers-answer bytes = read-answer number-of bytes 1
+
 unfoldable pub report-text : List ℕ → List ℕ
-report-text bytes = cond (is-links bytes)
-  (answer-text link-code 2 (length bytes) (read-answer link-of bytes 2))
-  (answer-text (λ v. v .value) 1 (length bytes) (read-answer number-of bytes 1))
+report-text bytes = cond (is-links bytes) (answer-text link-code 2 (length bytes) (links-answer bytes)) (answer-text (λ v. v .value) 1 (length bytes) (numbers-answer bytes))
 
 unfoldable pub is-accepted : List ℕ → Bool
-is-accepted bytes = cond (is-links bytes) (isOk (read-answer link-of bytes 2)) (isOk (read-answer number-of bytes 1))
+is-accepted bytes = cond (is-links bytes) (isOk (links-answer bytes)) (isOk (numbers-answer bytes))
 
 -- what a report holds
 pub record Reports (r : Report) (text : List ℕ) (accepted : Bool) : Type 0 where

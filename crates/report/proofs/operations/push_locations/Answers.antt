@@ -12,7 +12,7 @@ pub loop-location-again : need.loop-location-again
 loop-location-again c =
     let xs = c .args .locations .now in
     let i = c .loop-location .location-index in
-    let d = 0 in
+    let d : ℕ = 0 in
     let before = string-bytes (c .loop-location .out) in
     row-more _ before _ (λ zs. joined spaced zs) (λ zs. joined spaced zs) xs i d (spaced (getD xs i d))
     (c .loop-location-test .taken) refl (c .loop-location .inv) (c .in-Continue-push-spaced .ensures tt)
