@@ -5,6 +5,8 @@ mod answer;
 mod lines;
 mod operations;
 mod refusal;
+#[cfg(test)]
+mod tests;
 mod whole;
 pub use answer::Report;
 pub use whole::report;
