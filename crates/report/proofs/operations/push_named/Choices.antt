@@ -1,0 +1,10 @@
+use mathlib.Core.List.{_++_}
+use mathlib.Core.Path.{_≡_}
+use lib.ListN.{drop}
+use Rattle.std.specs.Joined.{joined}
+use Rattle.std.specs.Of.String.{string-bytes}
+use Rattle.report.specs.Lines.{spaced}
+use Rattle.report.proofs.operations.push_named.Given as given
+
+abbrev pub Inv-loop-operand : given.InvT-loop-operand
+Inv-loop-operand g l = string-bytes (l .out) ++ joined (λ o. spaced (o .location)) (drop (l .operand-index) (l .operands)) ≡ string-bytes (l .entry .out) ++ joined (λ o. spaced (o .location)) (l .operands)

@@ -1,0 +1,8 @@
+// What a report is.
+
+// The text of a report, and whether the sheet was accepted.
+#[derive(Drop)]
+pub struct Report {
+    pub text: String,
+    pub accepted: bool,
+}

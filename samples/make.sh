@@ -1,0 +1,10 @@
+#!/bin/sh
+# Turns an annotated run sheet into its bytes, on standard output.
+#   sh samples/make.sh samples/kcss.hex > kcss.sheet
+# In the file a byte stands as two hexadecimal digits, with blanks or line ends between the bytes; '#' starts
+# a comment that goes on to the end of its line.
+sed 's/#.*//' "$1" | tr -s ' \t' '\n\n' | while read -r byte; do
+    if [ -n "$byte" ]; then
+        printf "\\$(printf '%03o' "0x$byte")"
+    fi
+done
