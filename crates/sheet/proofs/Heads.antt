@@ -12,12 +12,12 @@ use Rattle.std.specs.declared.result.Result.the-variants.{Ok, Err}
 use Rattle.std.proofs.shelf.Ways.{tells}
 use Rattle.sheet.specs.declared.fault.SheetRefusal.the-variants.{WrongOperation}
 use Rattle.sheet.specs.declared.head.OperationHead.{OperationHead}
-use Rattle.sheet.specs.declared.kind.OperationKind.{OperationKind}
-use Rattle.sheet.specs.declared.kind.OperationKind.the-variants.{Read, Ll, Sc, Snapshot, Kcss}
+use Rattle.operation.specs.declared.kind.OperationKind.{OperationKind}
+use Rattle.operation.specs.declared.kind.OperationKind.the-variants.{Read, Ll, Sc, Snapshot, Kcss}
 use Rattle.sheet.specs.Bytes.{field}
 use Rattle.sheet.specs.Faults.{fault, require}
 use Rattle.sheet.specs.Format.{size-by}
-use Rattle.sheet.specs.Kinds.{kind-of, counted, takes-new, takes-expected}
+use Rattle.operation.specs.Kinds.{kind-of, counted, takes-new, takes-expected}
 use Rattle.sheet.specs.Reading.{head-answer, head-by, head-fits, unused}
 use Rattle.sheet.proofs.Answering.{require-ok}
 

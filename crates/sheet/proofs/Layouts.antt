@@ -11,14 +11,14 @@ use Rattle.std.proofs.shelf.Lists.{at-drop-more, at-drop-all}
 use Rattle.std.proofs.shelf.Ways.{tells}
 use Rattle.std.specs.declared.result.Result.{Result}
 use Rattle.std.specs.declared.result.Result.the-variants.{Ok, Err}
-use Rattle.sheet.specs.declared.kind.OperationKind.{OperationKind}
-use Rattle.sheet.specs.declared.kind.OperationKind.the-variants.{Read, Ll, Sc, Snapshot, Kcss}
+use Rattle.operation.specs.declared.kind.OperationKind.{OperationKind}
+use Rattle.operation.specs.declared.kind.OperationKind.the-variants.{Read, Ll, Sc, Snapshot, Kcss}
 use Rattle.sheet.specs.declared.fault.SheetRefusal.the-variants.{WrongHeader, WrongOperation, WrongScript}
 use Rattle.sheet.specs.declared.fault.SheetFault.{SheetFault}
 use Rattle.sheet.specs.declared.parts.Operation.{Operation}
 use Rattle.sheet.specs.declared.parts.ScriptItem.{ScriptItem}
 use Rattle.sheet.specs.declared.parts.ScriptItem.the-variants.{Start}
-use Rattle.sheet.specs.Kinds.{counted}
+use Rattle.operation.specs.Kinds.{counted}
 use Rattle.sheet.specs.Faults.{fault, require, then}
 use Rattle.sheet.specs.Parts.{Op, Parts, op-of}
 use Rattle.sheet.specs.Format.{act-kind, act-count, size-by, operations-at}

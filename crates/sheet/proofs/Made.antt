@@ -8,7 +8,7 @@ use lib.ListN.{length}
 use Rattle.std.proofs.shelf.Lists.{append-nil}
 use Rattle.std.specs.Joined.{joined}
 use Rattle.sheet.specs.Bytes.{bytes-of}
-use Rattle.sheet.specs.Kinds.{kind-number}
+use Rattle.operation.specs.Kinds.{kind-number}
 use Rattle.sheet.specs.Parts.{Op, Parts}
 use Rattle.sheet.specs.Format.{act-kind, act-count, new-code, script-at, total, operands-bytes, op-bytes, header-bytes}
 use Rattle.sheet.specs.Puts.{field-bytes}

@@ -11,12 +11,12 @@ use Rattle.std.specs.declared.option.Option.{Option}
 use Rattle.std.specs.declared.option.Option.the-variants.{Some}
 use Rattle.std.specs.declared.result.Result.the-variants.{Ok}
 use Rattle.std.proofs.shelf.Tests.{and-from, le-leb, lt-leb, cond-true, cond-false}
-use Rattle.sheet.specs.declared.kind.OperationKind.{OperationKind}
-use Rattle.sheet.specs.declared.kind.OperationKind.the-variants.{Read, Ll, Sc, Snapshot, Kcss}
+use Rattle.operation.specs.declared.kind.OperationKind.{OperationKind}
+use Rattle.operation.specs.declared.kind.OperationKind.the-variants.{Read, Ll, Sc, Snapshot, Kcss}
 use Rattle.sheet.specs.declared.fault.SheetRefusal.the-variants.{WrongOperation}
 use Rattle.sheet.specs.Bytes.{field, bytes-of}
 use Rattle.sheet.specs.Faults.{fault}
-use Rattle.sheet.specs.Kinds.{kind-number, kind-of, counted, takes-new, takes-expected}
+use Rattle.operation.specs.Kinds.{kind-number, kind-of, counted, takes-new, takes-expected}
 use Rattle.sheet.specs.Parts.{Act, read, ll, sc, snapshot, kcss, Op, Fitting, AllFitting}
 use Rattle.sheet.specs.Format.{act-kind, act-count, size-by, sizes, new-code, operands-bytes, op-bytes}
 use Rattle.sheet.specs.Reading.{unused, head-fits, head-by, head-answer, value-answer, operands-answer, action-by, action-answer, operation-answer, operations-answer}

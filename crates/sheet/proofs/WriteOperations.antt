@@ -15,14 +15,14 @@ use Rattle.std.specs.declared.result.Result.the-variants.{Ok}
 use Rattle.std.proofs.shelf.Lists.{drop-more}
 use Rattle.std.proofs.shelf.Ways.{tells}
 use Rattle.std.proofs.shelf.Tests.{and-parts, eqb-true, leb-true, cond-true, cond-false, cases-bool}
-use Rattle.sheet.specs.declared.kind.OperationKind.{OperationKind}
-use Rattle.sheet.specs.declared.kind.OperationKind.the-variants.{Read, Ll, Sc, Snapshot, Kcss}
+use Rattle.operation.specs.declared.kind.OperationKind.{OperationKind}
+use Rattle.operation.specs.declared.kind.OperationKind.the-variants.{Read, Ll, Sc, Snapshot, Kcss}
 use Rattle.sheet.specs.declared.fault.SheetRefusal.the-variants.{WrongOperation}
 use Rattle.sheet.specs.declared.fault.SheetFault.{SheetFault}
 use Rattle.sheet.specs.declared.head.OperationHead.{OperationHead}
 use Rattle.sheet.specs.Bytes.{field, bytes-of, AllBelow}
 use Rattle.sheet.specs.Faults.{fault, followed}
-use Rattle.sheet.specs.Kinds.{kind-number, kind-of, counted, takes-new, takes-expected}
+use Rattle.operation.specs.Kinds.{kind-number, kind-of, counted, takes-new, takes-expected}
 use Rattle.sheet.specs.Parts.{Act, sc, kcss, Op}
 use Rattle.sheet.specs.Format.{act-kind, act-count, size-by, location-bytes, new-code, operands-bytes, op-bytes}
 use Rattle.sheet.specs.Reading.{unused, head-fits, head-by, head-answer, value-answer, operands-answer, action-by, action-answer, operation-answer, operations-answer}

@@ -15,7 +15,7 @@ use Rattle.sheet.specs.declared.fault.SheetFault.{SheetFault}
 use Rattle.sheet.specs.declared.parts.Operation.{Operation}
 use Rattle.sheet.specs.Bytes.{overwritten}
 use Rattle.sheet.specs.Faults.{fault}
-use Rattle.sheet.specs.Kinds.{counted}
+use Rattle.operation.specs.Kinds.{counted}
 use Rattle.sheet.specs.Parts.{Op, Parts, op-of}
 use Rattle.sheet.specs.Format.{act-kind, act-count, size-by, operations-at, script-at, total, sheet-bytes}
 use Rattle.sheet.specs.Puts.{Small}

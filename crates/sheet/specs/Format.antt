@@ -3,13 +3,13 @@ use mathlib.Core.List.{List, [], _∷_, _++_, map}
 use Prim.Native.Nat.{ℕ, _+_, _*_}
 use lib.ListN.{length}
 use Rattle.std.specs.Joined.{joined}
-use Rattle.sheet.specs.declared.kind.OperationKind.{OperationKind}
-use Rattle.sheet.specs.declared.kind.OperationKind.the-variants.{Read, Ll, Sc, Snapshot, Kcss}
+use Rattle.operation.specs.declared.kind.OperationKind.{OperationKind}
+use Rattle.operation.specs.declared.kind.OperationKind.the-variants.{Read, Ll, Sc, Snapshot, Kcss}
 use Rattle.sheet.specs.declared.parts.Operand.{Operand}
 use Rattle.sheet.specs.declared.parts.ScriptItem.{ScriptItem}
 use Rattle.sheet.specs.declared.parts.ScriptItem.the-variants.{Start, Step}
 use Rattle.sheet.specs.Bytes.{bytes-of}
-use Rattle.sheet.specs.Kinds.{kind-number}
+use Rattle.operation.specs.Kinds.{kind-number}
 use Rattle.sheet.specs.Parts.{Act, read, ll, sc, snapshot, kcss, Op, Parts}
 
 abbrev pub act-kind : {V : Type 0} → Act V → OperationKind

@@ -1,5 +1,4 @@
 pub mod Bytes
-pub mod Kinds
 pub mod Faults
 pub mod Parts
 pub mod Format

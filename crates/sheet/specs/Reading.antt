@@ -9,8 +9,8 @@ use Rattle.std.specs.declared.option.Option.{Option}
 use Rattle.std.specs.declared.option.Option.the-variants.{Some, None}
 use Rattle.std.specs.declared.result.Result.{Result}
 use Rattle.std.specs.declared.result.Result.the-variants.{Ok, Err}
-use Rattle.sheet.specs.declared.kind.OperationKind.{OperationKind}
-use Rattle.sheet.specs.declared.kind.OperationKind.the-variants.{Read, Ll, Sc, Snapshot, Kcss}
+use Rattle.operation.specs.declared.kind.OperationKind.{OperationKind}
+use Rattle.operation.specs.declared.kind.OperationKind.the-variants.{Read, Ll, Sc, Snapshot, Kcss}
 use Rattle.sheet.specs.declared.fault.SheetRefusal.the-variants.{WrongLength, WrongHeader, WrongOffset, WrongOperation, WrongCode, WrongScript}
 use Rattle.sheet.specs.declared.fault.SheetFault.{SheetFault}
 use Rattle.sheet.specs.declared.header.Header.{Header}
@@ -20,7 +20,7 @@ use Rattle.sheet.specs.declared.parts.Operand.{Operand}
 use Rattle.sheet.specs.declared.parts.ScriptItem.{ScriptItem}
 use Rattle.sheet.specs.declared.parts.ScriptItem.the-variants.{Start, Step}
 use Rattle.sheet.specs.Bytes.{field}
-use Rattle.sheet.specs.Kinds.{kind-of, counted, takes-new, takes-expected}
+use Rattle.operation.specs.Kinds.{kind-of, counted, takes-new, takes-expected}
 use Rattle.sheet.specs.Faults.{fault, require, then, followed}
 use Rattle.sheet.specs.Parts.{Act, read, ll, sc, snapshot, kcss, Op, Parts}
 use Rattle.sheet.specs.Format.{size-by}

@@ -13,7 +13,7 @@ use Rattle.sheet.specs.declared.fault.SheetFault.{SheetFault}
 use Rattle.sheet.specs.declared.parts.ScriptItem.{ScriptItem}
 use Rattle.sheet.specs.declared.parts.ScriptItem.the-variants.{Start, Step}
 use Rattle.sheet.specs.Bytes.{overwritten}
-use Rattle.sheet.specs.Kinds.{counted}
+use Rattle.operation.specs.Kinds.{counted}
 use Rattle.sheet.specs.Faults.{fault, require, then}
 use Rattle.sheet.specs.Parts.{Op, Parts}
 use Rattle.sheet.specs.Format.{act-kind, act-count, size-by, operations-at, sheet-bytes}

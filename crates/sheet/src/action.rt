@@ -4,7 +4,7 @@ ghost use mathlib.Core.Path.{_≡_};
 ghost use Rattle.sheet.specs.Format.{act-kind, act-count, new-code, item-byte};
 ghost use Rattle.sheet.specs.Parts.{act-of};
 ghost use Rattle.sheet.specs.Writing.{writable};
-use crate::kind::OperationKind;
+use operation::OperationKind;
 use crate::parts::Action;
 use crate::parts::ScriptItem;
 use value::ValueKind;

@@ -1,5 +1,5 @@
 // What the first bytes of an operation say, once they are found right.
-use crate::kind::OperationKind;
+use operation::OperationKind;
 
 #[derive(Clone, Copy)]
 pub struct OperationHead {

@@ -1,11 +1,10 @@
 // Run sheets: what an examination run is to do, as types and as bytes, with reading and writing.
-// Uses `value` and the standard library.
+// Uses `value`, `operation` and the standard library.
 mod action;
 mod bytes;
 mod fault;
 mod head;
 mod header;
-mod kind;
 mod layout;
 mod parts;
 mod puts;
@@ -22,7 +21,6 @@ pub use fault::ReadErrorFromFault;
 pub use fault::ReadErrorFromRefused;
 pub use fault::SheetFault;
 pub use fault::SheetRefusal;
-pub use kind::OperationKind;
 pub use parts::Action;
 pub use parts::Operand;
 pub use parts::Operation;

@@ -16,7 +16,7 @@ use crate::fault::ReadErrorFromFault;
 use crate::fault::SheetFault;
 use crate::fault::SheetRefusal;
 use crate::head::OperationHead;
-use crate::kind::OperationKind;
+use operation::OperationKind;
 use crate::parts::Action;
 use crate::parts::Operation;
 use crate::read_lists::read_locations;

@@ -3,7 +3,7 @@ use mathlib.Core.Path.{sym, ap, _∙_}
 use native.Mathlib.Omega.{arith}
 use Rattle.std.specs.Joined.{joined}
 use Rattle.sheet.specs.Format.{operands-bytes}
-use Rattle.sheet.specs.Kinds.{kind-number}
+use Rattle.operation.specs.Kinds.{kind-number}
 use Rattle.sheet.specs.Parts.{act-of, op-of}
 use Rattle.sheet.specs.Puts.{field-bytes}
 use Rattle.sheet.proofs.Made.{op-made}

@@ -1,6 +1,6 @@
-// The five kinds of operations, with the numbers by which a run sheet names them.
+// The five kinds of operations, with their numbers.
 ghost use mathlib.Core.Path.{_≡_};
-ghost use Rattle.sheet.specs.Kinds.{kind-number, kind-of, counted, takes-new, takes-expected};
+ghost use Rattle.operation.specs.Kinds.{kind-number, kind-of, counted, takes-new, takes-expected};
 
 #[derive(Clone, Copy)]
 pub enum OperationKind {
