@@ -9,7 +9,6 @@ use Rattle.std.specs.Written.{decimal}
 use Rattle.sheet.specs.declared.fault.SheetRefusal.{SheetRefusal}
 use Rattle.sheet.specs.declared.fault.SheetRefusal.the-variants.{WrongLength, WrongHeader, WrongOffset, WrongOperation, WrongCode, WrongScript, ShortOutput}
 use Rattle.sheet.specs.declared.fault.SheetFault.{SheetFault}
-use Rattle.sheet.specs.declared.parts.Operand.{Operand}
 use Rattle.sheet.specs.declared.parts.ScriptItem.{ScriptItem}
 use Rattle.sheet.specs.declared.parts.ScriptItem.the-variants.{Start, Step}
 use Rattle.sheet.specs.Faults.{refusal-number}

@@ -1,7 +1,7 @@
-// Writing a sheet again, and the line on what came.
+// Writing a sheet again, and the line on what came. The bytes that come are compared with those that were
+// read; that they are the same is proved. Uses the writer of `sheet`.
 ghost use mathlib.Core.Bool.{true};
 ghost use mathlib.Core.Path.{_≡_};
-ghost use mathlib.Core.List.{_++_};
 ghost use Prim.Native.Nat.{ℕ, _≤_};
 ghost use lib.ListN.{length};
 ghost use Rattle.std.specs.Of.String.{string-bytes};

@@ -1,4 +1,4 @@
-// What a report is.
+// What a report is. Uses the standard library.
 
 // The text of a report, and whether the sheet was accepted.
 #[derive(Drop)]

@@ -1,9 +1,8 @@
-// The lines on a sheet's length, its header, its initial values and its schedule.
+// The lines on a sheet's length, its header, its initial values and its schedule. Each function adds its
+// lines at the end of a text. Uses the schedule's items of `sheet` and the codes of `value`.
 ghost use mathlib.Core.Path.{_≡_};
-ghost use mathlib.Core.List.{_++_};
 ghost use Prim.Native.Nat.{_+_, _^_, _<_};
 ghost use Rattle.std.specs.Of.String.{string-bytes};
-ghost use Rattle.std.specs.Vec.{made};
 ghost use Rattle.report.specs.Lines.{size-line, header-line, values-heading, value-line, schedule-heading, item-line, started-by};
 ghost use Rattle.report.specs.Texts.{Adds, values-text, script-text};
 use sheet::ScriptItem;

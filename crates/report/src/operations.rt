@@ -1,12 +1,11 @@
-// The lines on a sheet's operations.
-ghost use mathlib.Core.Path.{_≡_};
+// The lines on a sheet's operations. Each function adds its words at the end of a text. Uses the operations
+// of `sheet` and the codes of `value`.
 ghost use mathlib.Core.List.{_++_, map};
 ghost use Prim.Native.Nat.{_+_, _^_, _<_};
 ghost use Rattle.std.specs.Joined.{joined};
 ghost use Rattle.std.specs.Of.String.{string-bytes};
-ghost use Rattle.std.specs.Vec.{made};
 ghost use Rattle.sheet.specs.Parts.{act-of, op-of};
-ghost use Rattle.report.specs.Lines.{operations-heading, spaced, read-words, ll-words, sc-words, snapshot-word, kcss-word, expecting-word, new-words, operation-front, line-end, act-words, operation-line};
+ghost use Rattle.report.specs.Lines.{operations-heading, spaced, read-words, ll-words, sc-words, snapshot-word, kcss-word, expecting-word, new-words, act-words, operation-line};
 ghost use Rattle.report.specs.Texts.{Adds, operations-text};
 use sheet::Action;
 use sheet::Operand;

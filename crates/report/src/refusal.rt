@@ -1,8 +1,6 @@
-// The line on a refusal.
+// The line on a refusal: its layer, number and place, and why, in plain words. Uses the faults of `sheet`.
 ghost use mathlib.Core.Path.{_≡_};
-ghost use mathlib.Core.List.{_++_};
 ghost use Rattle.std.specs.Of.String.{string-bytes};
-ghost use Rattle.std.specs.Vec.{made};
 ghost use Rattle.report.specs.Lines.{refusal-words, refusal-line};
 ghost use Rattle.report.specs.Texts.{Adds};
 use sheet::SheetFault;

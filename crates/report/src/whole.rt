@@ -1,4 +1,5 @@
-// The whole report.
+// The whole report: the bytes are read as a sheet of links or of numbers, and described or refused. Uses the
+// reader of `sheet`, the two kinds of `value` and the lines of this crate.
 ghost use mathlib.Core.Bool.{true, false};
 ghost use mathlib.Core.Path.{_≡_};
 ghost use mathlib.Core.List.{_++_};
