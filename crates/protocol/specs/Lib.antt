@@ -1,0 +1,9 @@
+pub mod World
+pub mod Events
+pub mod History
+pub mod Past
+pub mod Operations
+pub mod Lists
+pub mod Store
+pub mod Certificates
+pub mod Order
