@@ -1,3 +1,8 @@
 pub mod Changes
-pub mod Views
 pub mod Time
+pub mod Views
+pub mod Stages
+pub mod Marks
+pub mod Tids
+pub mod Values
+pub mod Attempts
