@@ -6,3 +6,5 @@ pub mod Marks
 pub mod Tids
 pub mod Values
 pub mod Attempts
+pub mod Listing
+pub mod Replaying
