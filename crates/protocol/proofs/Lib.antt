@@ -8,3 +8,5 @@ pub mod Values
 pub mod Attempts
 pub mod Listing
 pub mod Replaying
+pub mod Spans
+pub mod Settled

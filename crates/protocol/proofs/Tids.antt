@@ -118,8 +118,12 @@ module _ {V : Type 0} (H : History V) where
       let y : p ≡ d .0 = one-process (W t .val a) p (d .0) (W t .tag p) (d .1) (c .1) (d .2) in
       clash (cc (c .0, d .3))
 
+  -- a value seen while the tid stays the same stays, calm
+  pub same-tid-calm : (s r x t a : ℕ) (v : V) → s ≤ r → r ≤ x → x ≤ t → W r .val a ≡ Value v → W t .tid a ≡ W s .tid a → Calm (W x) a v
+  same-tid-calm s r x t a v h i j m e = calm-since r a v x i m (λ u p f g. no-note s t a e u p (omega arith) (omega arith))
+
   pub same-tid-keeps : (s r t a : ℕ) (v : V) → s ≤ r → r ≤ t → W r .val a ≡ Value v → W t .tid a ≡ W s .tid a → Kept H r t a v
-  same-tid-keeps s r t a v h k m e = record { calm = until t k (omega arith); no-commit = λ u p x i j. calm-no-commit u a v p x (until u i (omega arith)) }
-    where
-      until : (x : ℕ) → r ≤ x → x ≤ t → Calm (W x) a v
-      until x i j = calm-since r a v x i m (λ u p f g. no-note s t a e u p (omega arith) (omega arith))
+  same-tid-keeps s r t a v h k m e = record
+    { calm = same-tid-calm s r t t a v h k (omega arith) m e
+    ; no-commit = λ u p x i j. calm-no-commit u a v p x (same-tid-calm s r u t a v h i (omega arith) m e)
+    }
