@@ -10,3 +10,5 @@ pub mod Listing
 pub mod Replaying
 pub mod Spans
 pub mod Settled
+pub mod Links
+pub mod Ordered

@@ -2,6 +2,7 @@
 // order of their operations by effect is lawful. It is model and proof alone; each theorem stands on a function.
 // Uses the cells of memories.
 ghost use Rattle.protocol.specs.Past.{Marks-owned, Ids-never-return, Same-tid-keeps, Changes-by-commit, Lost-mark-was-reset};
+ghost use Rattle.protocol.specs.Order.{Order-law};
 
 // An id in val of a location is the own id of its process, which has its mark there and the location's value saved.
 pub fn marks_are_owned<V>() -> u8
@@ -34,6 +35,13 @@ pub fn changes_by_commit<V>() -> u8
 // A line 11 that said no had its mark reset.
 pub fn lost_mark_was_reset<V>() -> u8
     ensures { λ _. ⌜ Lost-mark-was-reset V ⌝ }
+{
+    0
+}
+
+// The finished operations of a history, lowest effect first, are allowed by the one-at-a-time store.
+pub fn order_stands<V>() -> u8
+    ensures { λ _. ⌜ Order-law V ⌝ }
 {
     0
 }
