@@ -11,15 +11,15 @@ use Rattle.protocol.specs.Events.{Event}
 use Rattle.protocol.specs.Events.Event.{look, begin, save, mark, note, commit, fail, reset}
 use Rattle.protocol.specs.History.{History}
 use native.Mathlib.Decide.{decLe}
-use Rattle.protocol.specs.Past.{Reset-between, Never-return}
+use Rattle.protocol.specs.Past.{Dead, Reset-between, Never-return}
 use Rattle.protocol.proofs.Changes.{clash, one-process, one-tag}
 use Rattle.protocol.proofs.Time.{lasts, back}
 use Rattle.protocol.proofs.Views.{ValStep, ProcessStep, val-step, process-step, mark-does, commit-can, commit-does, fail-can}
 use Rattle.protocol.proofs.Views.ValStep.{v-same, v-mark, v-commit, v-reset}
 use Rattle.protocol.proofs.Views.ProcessStep.{p-same, p-begin, p-save, p-mark, p-note, p-done}
-use Rattle.protocol.proofs.Stages.{Noted, Over, noted-lasts, over-lasts}
+use Rattle.protocol.proofs.Stages.{Over, dead-lasts, over-lasts}
 use Rattle.protocol.proofs.Marks.{put-of, stood-since}
-use Rattle.protocol.proofs.Tids.{tid-holds-id, tid-left}
+use Rattle.protocol.proofs.Tids.{tid-holds-id, dead-of, tid-left}
 
 -- the process has its mark in place, and has run its line 9
 pub record Armed {V : Type 0} (w : World V) (p a τ : ℕ) : Type 0 where
@@ -39,21 +39,21 @@ module _ {V : Type 0} (H : History V) where
       here : Armed (W c) p a (W c .tag p)
       here = let d = commit-can H c p a u k in record { in-val = d .1; stands = d .0; own-tag = refl }
 
-      used : Noted (W e) p (W c .tag p)
-      used = (omega arith, λ i j. clash (cc), λ b i j. clash (cc))
+      used : Dead (W e) p (W c .tag p)
+      used = record { so-far = omega arith; not-fresh = λ i j. clash (cc); not-held = λ b i j. clash (cc) }
 
       step : (t : ℕ) → e ≤ t → t < c → Armed (W (suc t)) p a (W c .tag p) → Armed (W t) p a (W c .tag p)
-      step t h l ih = record { in-val = stood-since H e c a p (W c .tag p) (used .0, used .1) (here .in-val) t h (omega arith); stands = go (process-step H t p) .0; own-tag = go (process-step H t p) .1 }
+      step t h l ih = record { in-val = stood-since H e c a p (W c .tag p) (used .so-far, used .not-fresh) (here .in-val) t h (omega arith); stands = go (process-step H t p) .0; own-tag = go (process-step H t p) .1 }
         where
-          n : Noted (W t) p (W c .tag p)
-          n = noted-lasts H p (W c .tag p) e t h used
+          n : Dead (W t) p (W c .tag p)
+          n = dead-lasts H p (W c .tag p) e t h used
 
           go : ProcessStep (H .event t) (W t) (W (suc t)) p → (W t .stage p ≡ armed a) × (W t .tag p ≡ W c .tag p)
           go (p-same x y z) = (sym y ∙ ih .stands, sym x ∙ ih .own-tag)
           go (p-begin f d x y) = clash (cc (ih .stands))
           go (p-save v f d x y) = clash (cc (ih .stands))
           go (p-mark b v f d x y z) = clash (cc (ih .stands))
-          go (p-note b f d x y z) = absurd (n .2 b (sym (sym x ∙ ih .own-tag)) d)
+          go (p-note b f d x y z) = absurd (n .not-held b (sym (sym x ∙ ih .own-tag)) d)
           go (p-done b d x y z sv) = clash (cc (ih .stands))
 
   -- a tag has one commit
@@ -106,6 +106,7 @@ module _ {V : Type 0} (H : History V) where
   pub never-return : Never-return H
   never-return = record
     { an-id = tid-holds-id H
+    ; dead = dead-of H
     ; in-tid = λ s u t a h k. tid-left H s u t a h k
     ; in-val = λ s u t a q τ h k m n. stood-since H s t a q τ (put-of H s a q τ m) n u h k
     }

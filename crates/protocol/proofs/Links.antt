@@ -19,10 +19,12 @@ use Rattle.protocol.specs.Operations.Request.{read, ll, sc, snapshot, kcss}
 use Rattle.protocol.specs.Operations.Answer.{values, said}
 use Rattle.protocol.specs.Lists.{_∈_, Apart, by-effect, Ascending}
 use lib.Dec.{T, eqb, eqb→eq}
-use Rattle.protocol.specs.Store.{Link, Store, Change, change, relink, break-link, break-links, store-after}
+use Rattle.protocol.specs.Store.{Link, Store}
+use Rattle.protocol.specs.Replay.{Change, change, relink, break-link, break-links, store-after}
 use Rattle.protocol.specs.Store.Link.{unlinked, whole, broken}
-use Rattle.protocol.specs.Store.Change.{nothing, set}
-use Rattle.protocol.specs.Certificates.{Keeps-link, Its-ll, Sc-certificate, Certified}
+use Rattle.protocol.specs.Replay.Change.{nothing, set}
+use Rattle.protocol.specs.Certificates.{Keeps-link, Its-ll, Sc-shown}
+use Rattle.protocol.specs.Certified.{Certified}
 use Rattle.protocol.proofs.Changes.{clash, changed-here, changed-else, one-process, one-tag}
 use Rattle.protocol.proofs.Time.{lasts}
 use Rattle.protocol.proofs.Views.{mark-does, commit-can}
@@ -74,7 +76,7 @@ module _ {V : Type 0} (H : History V) (ended : List (Finished V)) (C : Certified
       go none e = absurd (unlogged H ended C (o .effect) e o m refl)
       go (some o′) e = let d = logged H ended C (o .effect) o′ e in e ∙ ap some (by-its-effect H ended C o′ o (d .0) m (d .1))
 
-  module _ (o : Finished V) (a : ℕ) (new : V) (d : Sets ended o a new) (c : Sc-certificate H ended o a new true) where
+  module _ (o : Finished V) (a : ℕ) (new : V) (d : Sets ended o a new) (c : Sc-shown H ended o a new true) where
     abbrev L : Its-ll H ended o a
     L = c .its-ll
 
@@ -84,7 +86,7 @@ module _ {V : Type 0} (H : History V) (ended : List (Finished V)) (C : Certified
         let p = o .process in
         let s = suc (L .linking .effect) in
         let n : W s .val a ≡ own-id (W (o .effect)) p = mark-does H (L .linking .effect) p a (L .value) (L .marked) .0 ∙ ap (id-cell p) (L .same-tag) in
-        stood-since H s (o .effect) a p (W (o .effect) .tag p) (put-of H s a p (W (o .effect) .tag p) n) (commit-can H (o .effect) p a new (c .line-11) .1) u h k
+        stood-since H s (o .effect) a p (W (o .effect) .tag p) (put-of H s a p (W (o .effect) .tag p) n) (commit-can H (o .effect) p a new (c .its-cas) .1) u h k
 
     -- no other yes at a takes effect meanwhile
     no-yes : (x : Finished V) (v : V) → Sets ended x a v → L .linking .effect < x .effect → x .effect < o .effect → ⊥

@@ -18,16 +18,19 @@ use Rattle.protocol.specs.Operations.{Expected, Request, Answer, Finished}
 use Rattle.protocol.specs.Operations.Request.{read, ll, sc, snapshot, kcss}
 use Rattle.protocol.specs.Operations.Answer.{values, said}
 use Rattle.protocol.specs.Lists.{_∈_, Apart, by-effect, Ascending}
-use Rattle.protocol.specs.Store.{Store, Change, change, store-after, As-expected, Some-differs, Allows, opened-store, Replays}
-use Rattle.protocol.specs.Store.Change.{set}
-use Rattle.protocol.specs.Store.Replays.{at-end, then-on}
+use Rattle.protocol.specs.Store.{Store, As-expected, Some-differs, Allows, opened-store}
+use Rattle.protocol.specs.Replay.{Change, change, store-after, Replays}
+use Rattle.protocol.specs.Replay.Change.{set}
+use Rattle.protocol.specs.Replay.Replays.{at-end, then-on}
 use Rattle.protocol.specs.Past.{Reset-between}
-use Rattle.protocol.specs.Certificates.{All-seen, Seen-expected, Seen-differing, Shown, Sc-certificate, Certified}
-use Rattle.protocol.specs.Order.{Mark-was-reset, At-rest, Ordered, Order-law}
+use Rattle.protocol.specs.Seen.{All-seen, Seen-expected, Seen-differing}
+use Rattle.protocol.specs.Certificates.{Shown, Sc-shown}
+use Rattle.protocol.specs.Certified.{Certified, At-rest}
+use Rattle.protocol.specs.Order.{Mark-was-reset, Ordered, Order-law}
 use Rattle.protocol.proofs.Views.{mark-can}
 use Rattle.protocol.proofs.Attempts.{was-reset}
 use Rattle.protocol.proofs.Listing.{order-all, order-only}
-use Rattle.protocol.proofs.Spans.{Sets, in-time, ascending}
+use Rattle.protocol.proofs.Spans.{Sets, in-time, by-its-effect, ascending}
 use Rattle.protocol.proofs.Settled.{feed, log, S, logged, unlogged, told, seen-told, saved-told, settles}
 use Rattle.protocol.proofs.Links.{linked}
 
@@ -129,9 +132,9 @@ module _ {V : Type 0} (H : History V) (ended : List (Finished V)) (C : Certified
   failed : (o : Finished V) (a : ℕ) (v : V) → o ∈ ended → o .request ≡ sc a v → o .answer ≡ said false → Mark-was-reset H ended o a
   failed o a v m e f =
       let s : Shown H ended o (sc a v) (o .answer) = subst (λ r. Shown H ended o r (o .answer)) e (C .each o m .shown) in
-      let c : Sc-certificate H ended o a v false = subst (Shown H ended o (sc a v)) f s in
+      let c : Sc-shown H ended o a v false = subst (Shown H ended o (sc a v)) f s in
       let i = c .its-ll in
-      let r = was-reset H (i .linking .effect) (o .effect) (o .process) a (i .value) (i .before) (i .marked) (c .line-11) (i .same-tag) in
+      let r = was-reset H (i .linking .effect) (o .effect) (o .process) a (i .value) (i .before) (i .marked) (c .its-cas) (i .same-tag) in
       record { its-ll = i; step = r .step; by-process = r .by-process; value = r .value; after-mark = r .after-mark; before-end = r .before-end; resets = r .resets; its-mark = r .its-mark }
 
 pub order : {V : Type 0} → Order-law V
@@ -139,6 +142,7 @@ order H ended n C q = record
   { all = order-all ended
   ; only = order-only ended
   ; ascending = ascending H ended C
+  ; distinct = by-its-effect H ended C
   ; store = S H ended C n
   ; replays = replays-from H ended C n (q .all-ended) n 0 (omega arith) (by-effect ended)
                 (record { ascends = ascending H ended C; all = λ o m i. order-all ended o m; only = λ o m. (order-only ended o m, omega arith) })

@@ -18,10 +18,12 @@ use Rattle.protocol.specs.Operations.{Expected, Request, Answer, Finished}
 use Rattle.protocol.specs.Operations.Request.{read, ll, sc, snapshot, kcss}
 use Rattle.protocol.specs.Operations.Answer.{values, said}
 use Rattle.protocol.specs.Lists.{_∈_, Apart, by-effect, Ascending}
-use Rattle.protocol.specs.Store.{Link, Store, Change, change, change-values, opened-store, store-after}
-use Rattle.protocol.specs.Store.Change.{nothing, set}
+use Rattle.protocol.specs.Store.{Link, Store, opened-store}
+use Rattle.protocol.specs.Replay.{Change, change, change-values, store-after}
+use Rattle.protocol.specs.Replay.Change.{nothing, set}
 use Rattle.protocol.specs.Past.{Calm}
-use Rattle.protocol.specs.Certificates.{Seen, Owner, Certified}
+use Rattle.protocol.specs.Seen.{Seen}
+use Rattle.protocol.specs.Certified.{Owner, Certified}
 use Rattle.protocol.proofs.Changes.{clash, changed-here, changed-else, one-process}
 use Rattle.protocol.proofs.Views.{commit-can, commit-does}
 use Rattle.protocol.proofs.Tids.{same-tid-calm}

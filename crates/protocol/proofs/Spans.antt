@@ -18,9 +18,10 @@ use Rattle.protocol.specs.Operations.{Expected, Request, Answer, Finished}
 use Rattle.protocol.specs.Operations.Request.{read, ll, sc, snapshot, kcss}
 use Rattle.protocol.specs.Operations.Answer.{values, said}
 use Rattle.protocol.specs.Lists.{_∈_, Apart, by-effect, Ascending}
-use Rattle.protocol.specs.Store.{Change, change}
-use Rattle.protocol.specs.Store.Change.{nothing, set}
-use Rattle.protocol.specs.Certificates.{Shown, Certified}
+use Rattle.protocol.specs.Replay.{Change, change}
+use Rattle.protocol.specs.Replay.Change.{nothing, set}
+use Rattle.protocol.specs.Certificates.{Shown}
+use Rattle.protocol.specs.Certified.{Certified}
 use Rattle.protocol.proofs.Changes.{clash, one-process, one-tag}
 use Rattle.protocol.proofs.Views.{commit-can}
 use Rattle.protocol.proofs.Attempts.{Armed, armed-through, one-commit}
@@ -43,7 +44,7 @@ spans-of H ended o a new (sc b u) (said true) c e =
     let x : b ≡ a = cc in
     let y : u ≡ new = cc in
     let z : o .last ≡ o .effect = c .at-once in
-    let k : H .event (o .effect) ≡ commit (o .process) a new = c .line-11 ∙ (cc) in
+    let k : H .event (o .effect) ≡ commit (o .process) a new = c .its-cas ∙ (cc) in
     let j : H .event (o .last) ≡ commit (o .process) a new = ap (H .event) z ∙ k in
     record { commits = j; noted = commit-can H (o .effect) (o .process) a new k .0; same-tag = ap (λ t. H .at t .tag (o .process)) (sym z) }
 spans-of H ended o a new (sc b u) (said false) c e = clash (cc)

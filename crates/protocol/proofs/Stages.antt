@@ -10,6 +10,7 @@ use Rattle.protocol.specs.World.Stage.{idle, fresh, held, armed}
 use Rattle.protocol.specs.Events.{Event}
 use Rattle.protocol.specs.Events.Event.{look, begin, save, mark, note, commit, fail, reset}
 use Rattle.protocol.specs.History.{History}
+use Rattle.protocol.specs.Past.{Dead}
 use Rattle.protocol.proofs.Changes.{clash}
 use Rattle.protocol.proofs.Time.{lasts}
 use Rattle.protocol.proofs.Views.{ProcessStep, process-step}
@@ -19,11 +20,7 @@ use Rattle.protocol.proofs.Views.ProcessStep.{p-same, p-begin, p-save, p-mark,
 abbrev pub Put : {V : Type 0} → World V → (process tag : ℕ) → Type 0
 Put w q τ = (τ ≤ w .tag q) × (τ ≡ w .tag q → w .stage q ≡ fresh → ⊥)
 
--- the id can be stored in no tid again: its tag is past, or line 9 has run
-abbrev pub Noted : {V : Type 0} → World V → (process tag : ℕ) → Type 0
-Noted w q τ = (τ ≤ w .tag q) × (τ ≡ w .tag q → w .stage q ≡ fresh → ⊥) × ((a : ℕ) → τ ≡ w .tag q → w .stage q ≡ held a → ⊥)
-
--- no line 11 with the id can come again
+-- the last CAS with the id has run: none comes again
 abbrev pub Over : {V : Type 0} → World V → (process tag : ℕ) → Type 0
 Over w q τ = (τ ≤ w .tag q) × (τ ≡ w .tag q → w .stage q ≡ idle)
 
@@ -45,19 +42,19 @@ module _ {V : Type 0} (H : History V) where
   pub put-lasts : (q τ s t : ℕ) → s ≤ t → Put (W s) q τ → Put (W t) q τ
   put-lasts q τ s t h u = lasts (λ x. Put (W x) q τ) s (λ x i. put-step q τ x) u t h
 
-  pub noted-step : (q τ t : ℕ) → Noted (W t) q τ → Noted (W (suc t)) q τ
-  noted-step q τ t u = go (process-step H t q)
+  pub dead-step : (q τ t : ℕ) → Dead (W t) q τ → Dead (W (suc t)) q τ
+  dead-step q τ t u = go (process-step H t q)
     where
-      go : ProcessStep (H .event t) (W t) (W (suc t)) q → Noted (W (suc t)) q τ
-      go (p-same a b c) = (omega arith, λ e f. u .1 (e ∙ a) (sym b ∙ f), λ x e f. u .2 x (e ∙ a) (sym b ∙ f))
-      go (p-begin e d a b) = (omega arith, λ e f. absurd (omega arith), λ x e f. clash (cc))
-      go (p-save v e d a b) = (omega arith, λ e f. u .1 (e ∙ a) d, λ x e f. clash (cc))
-      go (p-mark y v e d a b c) = (omega arith, λ e f. clash (cc), λ x e f. u .1 (e ∙ a) d)
-      go (p-note y e d a b c) = (omega arith, λ e f. clash (cc), λ x e f. clash (cc))
-      go (p-done y d a b c sv) = (omega arith, λ e f. clash (cc), λ x e f. clash (cc))
+      go : ProcessStep (H .event t) (W t) (W (suc t)) q → Dead (W (suc t)) q τ
+      go (p-same a b c) = record { so-far = (let h = u .so-far in omega arith); not-fresh = λ e f. u .not-fresh (e ∙ a) (sym b ∙ f); not-held = λ x e f. u .not-held x (e ∙ a) (sym b ∙ f) }
+      go (p-begin e d a b) = let h = u .so-far in record { so-far = omega arith; not-fresh = λ e f. absurd (omega arith); not-held = λ x e f. clash (cc) }
+      go (p-save v e d a b) = record { so-far = (let h = u .so-far in omega arith); not-fresh = λ e f. u .not-fresh (e ∙ a) d; not-held = λ x e f. clash (cc) }
+      go (p-mark y v e d a b c) = record { so-far = (let h = u .so-far in omega arith); not-fresh = λ e f. clash (cc); not-held = λ x e f. u .not-fresh (e ∙ a) d }
+      go (p-note y e d a b c) = record { so-far = (let h = u .so-far in omega arith); not-fresh = λ e f. clash (cc); not-held = λ x e f. clash (cc) }
+      go (p-done y d a b c sv) = record { so-far = (let h = u .so-far in omega arith); not-fresh = λ e f. clash (cc); not-held = λ x e f. clash (cc) }
 
-  pub noted-lasts : (q τ s t : ℕ) → s ≤ t → Noted (W s) q τ → Noted (W t) q τ
-  noted-lasts q τ s t h u = lasts (λ x. Noted (W x) q τ) s (λ x i. noted-step q τ x) u t h
+  pub dead-lasts : (q τ s t : ℕ) → s ≤ t → Dead (W s) q τ → Dead (W t) q τ
+  dead-lasts q τ s t h u = lasts (λ x. Dead (W x) q τ) s (λ x i. dead-step q τ x) u t h
 
   over-step : (q τ t : ℕ) → Over (W t) q τ → Over (W (suc t)) q τ
   over-step q τ t u = go (process-step H t q)

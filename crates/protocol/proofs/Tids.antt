@@ -1,4 +1,4 @@
--- Tids: an id in a tid is dead, so an unchanged tid means that no line 9 wrote it, and a value seen meanwhile stays.
+-- Tids: an id in a tid is dead, so an unchanged tid was not written, and a value seen meanwhile stays.
 use mathlib.Core.Path.{_≡_, refl, sym, _∙_, ap, subst}
 use mathlib.Core.Logic.{_⊎_, inl, inr}
 use Prim.Native.Nat.{ℕ, zero, suc, _≤_, _<_}
@@ -10,14 +10,14 @@ use Rattle.protocol.specs.World.Stage.{idle, fresh, held, armed}
 use Rattle.protocol.specs.Events.{Event}
 use Rattle.protocol.specs.Events.Event.{look, begin, save, mark, note, commit, fail, reset}
 use Rattle.protocol.specs.History.{History}
-use Rattle.protocol.specs.Past.{Calm, Kept}
+use Rattle.protocol.specs.Past.{Dead, Calm, Kept, Tid-guards}
 use Rattle.protocol.proofs.Changes.{clash, one-process, one-tag}
 use Rattle.protocol.proofs.Time.{lasts}
 use Rattle.protocol.proofs.Views.{ValStep, TidStep, ProcessStep, val-step, tid-step, process-step, commit-can, note-can, note-does}
 use Rattle.protocol.proofs.Views.ValStep.{v-same, v-mark, v-commit, v-reset}
 use Rattle.protocol.proofs.Views.TidStep.{t-same, t-note}
 use Rattle.protocol.proofs.Views.ProcessStep.{p-same, p-begin, p-save, p-mark, p-note, p-done}
-use Rattle.protocol.proofs.Stages.{Noted, noted-step, noted-lasts}
+use Rattle.protocol.proofs.Stages.{dead-step, dead-lasts}
 
 module _ {V : Type 0} (H : History V) where
   abbrev W : ℕ → World V
@@ -31,32 +31,32 @@ module _ {V : Type 0} (H : History V) where
       go d (t-same e) = (d .0, d .1, e ∙ d .2)
       go d (t-note p e f g h i) = (p, W t .tag p, g)
 
-  -- an id in a tid is one that no line 9 stores again
-  pub noted-of : (t a q τ : ℕ) → W t .tid a ≡ id-cell q τ → Noted (W t) q τ
-  noted-of zero a q τ m =
+  -- an id in a tid is dead
+  pub dead-of : (t a q τ : ℕ) → W t .tid a ≡ id-cell q τ → Dead (W t) q τ
+  dead-of zero a q τ m =
       let l = H .opened .stages q in
       let x : 0 ≡ τ = one-tag (W 0 .tid a) 0 q 0 τ (H .opened .tids a) m in
-      (omega arith, λ j k. clash (cc), λ b j k. clash (cc))
-  noted-of (suc t) a q τ m = go (noted-of t a q τ) (tid-step H t a)
+      record { so-far = omega arith; not-fresh = λ j k. clash (cc); not-held = λ b j k. clash (cc) }
+  dead-of (suc t) a q τ m = go (dead-of t a q τ) (tid-step H t a)
     where
-      go : (W t .tid a ≡ id-cell q τ → Noted (W t) q τ) → TidStep (H .event t) (W t) (W (suc t)) a → Noted (W (suc t)) q τ
-      go ih (t-same e) = noted-step H q τ t (ih (sym e ∙ m))
+      go : (W t .tid a ≡ id-cell q τ → Dead (W t) q τ) → TidStep (H .event t) (W t) (W (suc t)) a → Dead (W (suc t)) q τ
+      go ih (t-same e) = dead-step H q τ t (ih (sym e ∙ m))
       go ih (t-note p e f g h i) =
           let x : p ≡ q = one-process (W (suc t) .tid a) p q (W t .tag p) τ g m in
           let x′ : W t .tag p ≡ τ = one-tag (W (suc t) .tid a) p q (W t .tag p) τ g m in
           let y : W (suc t) .tag q ≡ τ = cc in
           let z : W (suc t) .stage q ≡ armed a = cc in
-          (omega arith, λ j k. clash (cc), λ b j k. clash (cc))
+          record { so-far = omega arith; not-fresh = λ j k. clash (cc); not-held = λ b j k. clash (cc) }
 
-  -- no later line 9 stores what a tid has now
+  -- no later step writes to a tid what a tid has now
   another : (s x a p b : ℕ) → s ≤ x → W x .stage p ≡ held b → own-id (W x) p ≡ W s .tid a → ⊥
   another s x a p b h f g =
       let d = tid-holds-id s a in
       let m = d .2 in
-      let n = noted-lasts H (d .0) (d .1) s x h (noted-of s a (d .0) (d .1) m) in
+      let n = dead-lasts H (d .0) (d .1) s x h (dead-of s a (d .0) (d .1) m) in
       let i : p ≡ d .0 = one-process (W s .tid a) p (d .0) (W x .tag p) (d .1) (sym g) m in
       let j : W x .tag p ≡ d .1 = one-tag (W s .tid a) p (d .0) (W x .tag p) (d .1) (sym g) m in
-      n .2 b (sym j ∙ ap (W x .tag) i) (ap (W x .stage) (sym i) ∙ f)
+      n .not-held b (sym j ∙ ap (W x .tag) i) (ap (W x .stage) (sym i) ∙ f)
 
   -- what a tid has no more, it never has again
   pub tid-left : (s u t a : ℕ) → s ≤ u → u ≤ t → (W u .tid a ≡ W s .tid a → ⊥) → W t .tid a ≡ W s .tid a → ⊥
@@ -69,7 +69,7 @@ module _ {V : Type 0} (H : History V) where
           go (t-same f) = ih (sym f ∙ m)
           go (t-note q f g i j o) = another s x a q a (omega arith) g (sym i ∙ m)
 
-  -- so an unchanged tid means that no line 9 wrote it
+  -- so an unchanged tid was not written
   pub no-note : (s t a : ℕ) → W t .tid a ≡ W s .tid a → (u p : ℕ) → s ≤ u → u < t → H .event u ≡ note p a → ⊥
   no-note s t a m u p h k e =
       tid-left s (suc u) t a (omega arith) k (λ n. another s u a p a h (note-can H u p a e) (sym (note-does H u p a e) ∙ n)) m
@@ -104,7 +104,7 @@ module _ {V : Type 0} (H : History V) where
           let y : q′ ≡ q = one-process (W t .val a) q′ q τ′ τ f m in
           let x : u ≡ v = cc in inl (i ∙ ap Value x)
 
-  -- with no line 9 at a since a value was seen there, a is calm with it
+  -- a location whose tid was not written since a value was seen there is calm with it
   pub calm-since : (r a : ℕ) (v : V) (t : ℕ) → r ≤ t → W r .val a ≡ Value v → ((u p : ℕ) → r ≤ u → u < t → H .event u ≡ note p a → ⊥) → Calm (W t) a v
   calm-since r a v t h m q =
       lasts (λ x. x ≤ t → Calm (W x) a v) r
@@ -122,8 +122,11 @@ module _ {V : Type 0} (H : History V) where
   pub same-tid-calm : (s r x t a : ℕ) (v : V) → s ≤ r → r ≤ x → x ≤ t → W r .val a ≡ Value v → W t .tid a ≡ W s .tid a → Calm (W x) a v
   same-tid-calm s r x t a v h i j m e = calm-since r a v x i m (λ u p f g. no-note s t a e u p (omega arith) (omega arith))
 
-  pub same-tid-keeps : (s r t a : ℕ) (v : V) → s ≤ r → r ≤ t → W r .val a ≡ Value v → W t .tid a ≡ W s .tid a → Kept H r t a v
-  same-tid-keeps s r t a v h k m e = record
-    { calm = same-tid-calm s r t t a v h k (omega arith) m e
-    ; no-commit = λ u p x i j. calm-no-commit u a v p x (same-tid-calm s r u t a v h i (omega arith) m e)
-    }
+  pub tid-guards : Tid-guards H
+  tid-guards = record { unwritten-keeps = keeps; same-unwritten = no-note }
+    where
+      keeps : (r t a : ℕ) (v : V) → W r .val a ≡ Value v → ((u p : ℕ) → r ≤ u → u < t → H .event u ≡ note p a → ⊥) → Kept H r t a v
+      keeps r t a v m q = record { calm = until; no-commit = λ u p x i j. calm-no-commit u a v p x (until u i (omega arith)) }
+        where
+          until : (x : ℕ) → r ≤ x → x ≤ t → Calm (W x) a v
+          until x i j = calm-since r a v x i m (λ u p f g. q u p f (omega arith))

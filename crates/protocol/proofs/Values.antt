@@ -10,7 +10,7 @@ use Rattle.protocol.specs.World.Stage.{idle, fresh, held, armed}
 use Rattle.protocol.specs.Events.{Event}
 use Rattle.protocol.specs.Events.Event.{look, begin, save, mark, note, commit, fail, reset}
 use Rattle.protocol.specs.History.{History}
-use Rattle.protocol.specs.Past.{Abstract}
+use Rattle.protocol.specs.Past.{One-value}
 use Rattle.protocol.proofs.Changes.{clash, one-process}
 use Rattle.protocol.proofs.Views.{ValStep, val-step, commit-does}
 use Rattle.protocol.proofs.Views.ValStep.{v-same, v-mark, v-commit, v-reset}
@@ -55,8 +55,8 @@ module _ {V : Type 0} (H : History V) where
           let x : u ≡ v = cc (d .3) in
           inl (inl (i ∙ ap Value x))
 
-  pub abstract-value : Abstract H
-  abstract-value = record { some-value = stands-some; one-value = stands-once; by-commit = by-commit }
+  pub one-value : One-value H
+  one-value = record { some-value = stands-some; no-other = stands-once; by-commit = by-commit }
     where
       by-commit : (t a : ℕ) (u v : V) → Stands (W t) a u → Stands (W (suc t)) a v → (u ≡ v) ⊎ ((p : ℕ) × (H .event t ≡ commit p a v))
       by-commit t a u v s s′ = go (stands-on t a u s)

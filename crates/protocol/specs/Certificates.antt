@@ -1,4 +1,4 @@
--- Certificates: for each finished operation, the facts of the past that its answer rests on.
+-- Certificates: of a finished operation, the facts of the past that its answer rests on.
 use mathlib.Core.Path.{_≡_}
 use mathlib.Core.Bool.{Bool, true, false, cond}
 use mathlib.Core.List.{List, [], _∷_}
@@ -14,49 +14,18 @@ use Rattle.protocol.specs.History.{History}
 use Rattle.protocol.specs.Operations.{Expected, Request, Answer, Finished}
 use Rattle.protocol.specs.Operations.Request.{read, ll, sc, snapshot, kcss}
 use Rattle.protocol.specs.Operations.Answer.{values, said}
-use Rattle.protocol.specs.Lists.{_∈_, Apart}
-use Rattle.protocol.specs.Store.{Change, change}
-use Rattle.protocol.specs.Store.Change.{set}
+use Rattle.protocol.specs.Lists.{_∈_}
+use Rattle.protocol.specs.Seen.{All-seen, Seen-expected, Seen-differing}
 
--- The effect is a step of the operation's own process, not past its last one, and between the two no other operation
--- of that process ended.
+-- The effect is a step of the operation's own process, not past its last step, and from the effect to that step no
+-- other operation of the process ended.
 pub record Timed {V : Type 0} (history : History V) (ended : List (Finished V)) (done : Finished V) : Type 0 where
   pub in-time : done .effect ≤ done .last
   pub own-step : maker (history .event (done .effect)) ≡ done .process
   pub undisturbed : (other : Finished V) → other ∈ ended → other .process ≡ done .process
                     → done .effect ≤ other .last → other .last < done .last → ⊥
 
--- The location was read as the value not after the step, and its tid was the same cell before that look and after the
--- step.
-pub record Seen {V : Type 0} (history : History V) (step location : ℕ) (value : V) : Type 0 where
-  pub tid-look : ℕ
-  pub value-look : ℕ
-  pub tid-look-again : ℕ
-  pub tid-first : tid-look ≤ value-look
-  pub value-next : value-look ≤ step
-  pub tid-last : step ≤ tid-look-again
-  pub same-tid : history .at tid-look-again .tid location ≡ history .at tid-look .tid location
-  pub found : history .at value-look .val location ≡ Value value
-
--- Each location was seen so, in turn.
-abbrev pub All-seen : {V : Type 0} → History V → (step : ℕ) → List ℕ → List V → Type 0
-All-seen history step [] [] = Unit {0}
-All-seen history step [] (value ∷ more) = ⊥
-All-seen history step (location ∷ others) [] = ⊥
-All-seen history step (location ∷ others) (value ∷ more) = Seen history step location value × All-seen history step others more
-
--- Each location was seen with its expected value.
-abbrev pub Seen-expected : {V : Type 0} → History V → (step : ℕ) → List (Expected V) → Type 0
-Seen-expected history step [] = Unit {0}
-Seen-expected history step (one ∷ more) = Seen history step (one .location) (one .value) × Seen-expected history step more
-
--- Some location was seen with another value than its expected one.
-abbrev pub Seen-differing : {V : Type 0} → History V → (step : ℕ) → List (Expected V) → Type 0
-Seen-differing history step [] = ⊥
-Seen-differing {V = V} history step (one ∷ more) =
-  ((value : V) × Seen history step (one .location) value × (value ≡ one .value → ⊥)) ⊎ Seen-differing history step more
-
--- An operation that neither makes nor ends a link.
+-- An operation of the kind neither makes nor ends a link.
 abbrev pub Keeps-link : {V : Type 0} → Request V → Type 0
 Keeps-link (read location) = Unit {0}
 Keeps-link (ll location) = ⊥
@@ -64,9 +33,10 @@ Keeps-link (sc location new) = ⊥
 Keeps-link (snapshot locations) = Unit {0}
 Keeps-link (kcss first others new) = Unit {0}
 
--- The LL of an SC: a finished LL of the same process and location, whose mark was put with the tag that the process
--- still has at the SC's effect; between the two effects no LL or SC of the process takes effect.
-pub record Its-ll {V : Type 0} (history : History V) (ended : List (Finished V)) (done : Finished V) (location : ℕ) : Type 0 where
+-- The LL of an SC: a finished LL of the same process and location, whose effect put its mark with the tag that the
+-- process still has at the SC's effect; between the two effects no LL or SC of the process takes effect.
+pub record Its-ll {V : Type 0} (history : History V) (ended : List (Finished V)) (done : Finished V) (location : ℕ)
+                  : Type 0 where
   pub linking : Finished V
   pub value : V
   pub is-listed : linking ∈ ended
@@ -78,30 +48,34 @@ pub record Its-ll {V : Type 0} (history : History V) (ended : List (Finished V))
   pub latest : (other : Finished V) → other ∈ ended → other .process ≡ done .process
                → linking .effect < other .effect → other .effect < done .effect → Keeps-link (other .request)
 
--- SC: its one step is its line 11, which committed for a yes and failed for a no.
-pub record Sc-certificate {V : Type 0} (history : History V) (ended : List (Finished V)) (done : Finished V) (location : ℕ) (new : V) (agreed : Bool) : Type 0 where
+-- SC: its effect is its last step, its CAS, which committed for a yes and failed for a no.
+pub record Sc-shown {V : Type 0} (history : History V) (ended : List (Finished V)) (done : Finished V) (location : ℕ)
+                    (new : V) (agreed : Bool) : Type 0 where
   pub at-once : done .last ≡ done .effect
-  pub line-11 : history .event (done .effect) ≡ cond agreed (commit (done .process) location new) (fail (done .process) location)
+  pub its-cas : history .event (done .effect)
+                ≡ cond agreed (commit (done .process) location new) (fail (done .process) location)
   pub its-ll : Its-ll history ended done location
 
 -- KCSS that said yes: at its effect it was armed with the expected value saved, and its last step committed with the
 -- same tag; the other locations were seen with their expected values.
-pub record Kcss-yes {V : Type 0} (history : History V) (done : Finished V) (first : Expected V) (others : List (Expected V)) (new : V) : Type 0 where
+pub record Kcss-yes {V : Type 0} (history : History V) (done : Finished V) (first : Expected V)
+                    (others : List (Expected V)) (new : V) : Type 0 where
   pub commits : history .event (done .last) ≡ commit (done .process) (first .location) new
   pub same-tag : history .at (done .effect) .tag (done .process) ≡ history .at (done .last) .tag (done .process)
   pub noted : history .at (done .effect) .stage (done .process) ≡ armed (first .location)
   pub expected : history .at (done .effect) .saved (done .process) ≡ Value (first .value)
   pub seen : Seen-expected history (done .effect) others
 
--- KCSS that said no: its effect is its mark, put where another value than the expected one stood, or some other
--- location was seen with another value than its expected one.
+-- KCSS that said no: its effect put its mark where another value than the expected one stood, or some other location
+-- was seen with another value than its expected one.
 abbrev pub Kcss-no : {V : Type 0} → History V → Finished V → Expected V → List (Expected V) → Type 0
 Kcss-no {V = V} history done first others =
-  ((value : V) × (history .event (done .effect) ≡ mark (done .process) (first .location) value) × (value ≡ first .value → ⊥))
+  ((value : V) × (history .event (done .effect) ≡ mark (done .process) (first .location) value)
+               × (value ≡ first .value → ⊥))
   ⊎ Seen-differing history (done .effect) others
 
 -- What an answer rests on. READ: at its effect the value was in val. LL: its effect put its mark where the value was.
--- SNAPSHOT: each location was seen with its value.
+-- SNAPSHOT: each location was seen with its value. SC and KCSS as above.
 abbrev pub Shown : {V : Type 0} → History V → List (Finished V) → Finished V → Request V → Answer V → Type 0
 Shown {V = V} history ended done (read location) (values answered) =
   (value : V) × (answered ≡ value ∷ []) × (history .at (done .effect) .val location ≡ Value value)
@@ -110,29 +84,16 @@ Shown {V = V} history ended done (ll location) (values answered) =
   (value : V) × (answered ≡ value ∷ []) × (history .event (done .effect) ≡ mark (done .process) location value)
 Shown history ended done (ll location) (said agreed) = ⊥
 Shown history ended done (sc location new) (values answered) = ⊥
-Shown history ended done (sc location new) (said agreed) = Sc-certificate history ended done location new agreed
-Shown history ended done (snapshot locations) (values answered) = All-seen history (done .effect) locations answered
+Shown history ended done (sc location new) (said agreed) = Sc-shown history ended done location new agreed
+Shown history ended done (snapshot locations) (values answered) =
+  All-seen history (done .effect) locations answered
 Shown history ended done (snapshot locations) (said agreed) = ⊥
 Shown history ended done (kcss first others new) (values answered) = ⊥
 Shown history ended done (kcss first others new) (said true) = Kcss-yes history done first others new
 Shown history ended done (kcss first others new) (said false) = Kcss-no history done first others
 
-pub record Certificate {V : Type 0} (history : History V) (ended : List (Finished V)) (done : Finished V) : Type 0 where
+-- The certificate of a finished operation.
+pub record Certificate {V : Type 0} (history : History V) (ended : List (Finished V)) (done : Finished V)
+                       : Type 0 where
   pub timed : Timed history ended done
   pub shown : Shown history ended done (done .request) (done .answer)
-
--- A finished yes that sets the location to the value and ends at the step.
-pub record Owner {V : Type 0} (ended : List (Finished V)) (step process location : ℕ) (new : V) : Type 0 where
-  pub done : Finished V
-  pub is-listed : done ∈ ended
-  pub same-process : done .process ≡ process
-  pub sets : change (done .request) (done .answer) ≡ set location new
-  pub ends-there : done .last ≡ step
-
--- The list is of finished operations, in any order: each has its certificate, each step ends at most one, and every
--- commit belongs to a yes of the list that ends there, or puts back the saved value, as a KCSS that says no does.
-pub record Certified {V : Type 0} (history : History V) (ended : List (Finished V)) : Type 0 where
-  pub each : (done : Finished V) → done ∈ ended → Certificate history ended done
-  pub apart : Apart ended
-  pub owned : (step process location : ℕ) (new : V) → history .event step ≡ commit process location new
-              → (history .at step .saved process ≡ Value new) ⊎ Owner ended step process location new

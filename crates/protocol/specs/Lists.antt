@@ -17,13 +17,16 @@ done ∈ (one ∷ more) = (done ≡ one) ⊎ (done ∈ more)
 -- No two places of the list have operations with the same last step.
 abbrev pub Apart : {V : Type 0} → List (Finished V) → Type 0
 Apart [] = Unit {0}
-Apart {V = V} (one ∷ more) = ((other : Finished V) → other ∈ more → one .last ≡ other .last → ⊥) × Apart more
+Apart {V = V} (one ∷ more) =
+  ((other : Finished V) → other ∈ more → one .last ≡ other .last → ⊥) × Apart more
 
--- The operations, lowest effect step first.
+-- The operation put before the first whose effect step is not lower.
 abbrev pub insert : {V : Type 0} → Finished V → List (Finished V) → List (Finished V)
 insert done [] = done ∷ []
-insert done (one ∷ more) = cond (leb (done .effect) (one .effect)) (done ∷ one ∷ more) (one ∷ insert done more)
+insert done (one ∷ more) =
+  cond (leb (done .effect) (one .effect)) (done ∷ one ∷ more) (one ∷ insert done more)
 
+-- The operations, lowest effect step first.
 abbrev pub by-effect : {V : Type 0} → List (Finished V) → List (Finished V)
 by-effect [] = []
 by-effect (one ∷ more) = insert one (by-effect more)
@@ -31,4 +34,5 @@ by-effect (one ∷ more) = insert one (by-effect more)
 -- Each effect step is below all that follow in the list.
 abbrev pub Ascending : {V : Type 0} → List (Finished V) → Type 0
 Ascending [] = Unit {0}
-Ascending {V = V} (one ∷ more) = ((other : Finished V) → other ∈ more → one .effect < other .effect) × Ascending more
+Ascending {V = V} (one ∷ more) =
+  ((other : Finished V) → other ∈ more → one .effect < other .effect) × Ascending more

@@ -1,22 +1,25 @@
--- The order by effect: the law that the finished operations of every history keep.
+-- The law of the order by effect.
 use mathlib.Core.Path.{_≡_}
 use mathlib.Core.Bool.{false}
 use mathlib.Core.List.{List}
-use Prim.Native.Nat.{ℕ, _≤_, _<_}
+use Prim.Native.Nat.{ℕ, _<_}
 use Rattle.memory.specs.declared.cell.Cell.{Cell}
 use Rattle.protocol.specs.World.{World, own-id, Stands}
 use Rattle.protocol.specs.Events.{Event}
-use Rattle.protocol.specs.Events.Event.{commit, reset}
+use Rattle.protocol.specs.Events.Event.{reset}
 use Rattle.protocol.specs.History.{History}
 use Rattle.protocol.specs.Operations.{Request, Answer, Finished}
 use Rattle.protocol.specs.Operations.Request.{sc}
 use Rattle.protocol.specs.Operations.Answer.{said}
-use Rattle.protocol.specs.Store.{Store, opened-store, Replays}
+use Rattle.protocol.specs.Store.{Store, opened-store}
+use Rattle.protocol.specs.Replay.{Replays}
 use Rattle.protocol.specs.Lists.{_∈_, by-effect, Ascending}
-use Rattle.protocol.specs.Certificates.{Its-ll, Certified}
+use Rattle.protocol.specs.Certificates.{Its-ll}
+use Rattle.protocol.specs.Certified.{Certified, At-rest}
 
--- Why an SC said no: after the mark that its LL put, and before its own step, some process reset that mark.
-pub record Mark-was-reset {V : Type 0} (history : History V) (ended : List (Finished V)) (done : Finished V) (location : ℕ) : Type 0 where
+-- Why an SC said no: after the mark that its LL put, and before its own step, a step of some process reset that mark.
+pub record Mark-was-reset {V : Type 0} (history : History V) (ended : List (Finished V)) (done : Finished V)
+                          (location : ℕ) : Type 0 where
   pub its-ll : Its-ll history ended done location
   pub step : ℕ
   pub by-process : ℕ
@@ -26,25 +29,21 @@ pub record Mark-was-reset {V : Type 0} (history : History V) (ended : List (Fini
   pub resets : history .event step ≡ reset by-process location value
   pub its-mark : history .at step .val location ≡ own-id (history .at (its-ll .linking .effect)) (done .process)
 
--- From the step on the history is at rest: no commit comes, and the listed operations have ended.
-pub record At-rest {V : Type 0} (history : History V) (ended : List (Finished V)) (from : ℕ) : Type 0 where
-  pub no-commit : (step process location : ℕ) (new : V) → from ≤ step → history .event step ≡ commit process location new → ⊥
-  pub all-ended : (done : Finished V) → done ∈ ended → done .last < from
-
+-- In the order by effect stand the same operations, and no two of them take effect at one step. The store allows each
+-- in its turn, and then holds what every location stands for. An SC said no only after a reset of its mark.
 pub record Ordered {V : Type 0} (history : History V) (ended : List (Finished V)) (from : ℕ) : Type 0 where
-  -- in the order by effect stand the same operations
   pub all : (done : Finished V) → done ∈ ended → done ∈ by-effect ended
   pub only : (done : Finished V) → done ∈ by-effect ended → done ∈ ended
-  -- and no two of them take effect at one step
   pub ascending : Ascending (by-effect ended)
-  -- the store allows each in its turn
+  pub distinct : (done other : Finished V) → done ∈ ended → other ∈ ended → done .effect ≡ other .effect → done ≡ other
   pub store : Store V
   pub replays : Replays (opened-store (history .initial)) (by-effect ended) store
-  -- and then holds what every location stands for
   pub stands : (location : ℕ) → Stands (history .at from) location (store .value location)
-  -- an SC said no only after a reset of its mark
-  pub failures : (done : Finished V) (location : ℕ) (new : V) → done ∈ ended → done .request ≡ sc location new → done .answer ≡ said false
+  pub failures : (done : Finished V) (location : ℕ) (new : V) → done ∈ ended
+                 → done .request ≡ sc location new → done .answer ≡ said false
                  → Mark-was-reset history ended done location
 
+-- So it is in every history that has come to rest.
 abbrev pub Order-law : Type 0 → Type 0
-Order-law V = (history : History V) (ended : List (Finished V)) (from : ℕ) → Certified history ended → At-rest history ended from → Ordered history ended from
+Order-law V = (history : History V) (ended : List (Finished V)) (from : ℕ)
+  → Certified history ended → At-rest history ended from → Ordered history ended from
