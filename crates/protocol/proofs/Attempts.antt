@@ -1,4 +1,4 @@
--- Attempts: from line 9 to line 11 of one attempt its mark stands; a tag has one commit; a mark that is gone was reset.
+-- Attempts: an armed process that commits had its mark in place; a tag has one commit; a mark that is gone was reset.
 use mathlib.Core.Path.{_≡_, refl, sym, _∙_, ap, subst}
 use mathlib.Core.Logic.{_⊎_, inl, inr}
 use Prim.Native.Nat.{ℕ, zero, suc, _≤_, _<_}
@@ -21,7 +21,7 @@ use Rattle.protocol.proofs.Stages.{Over, dead-lasts, over-lasts}
 use Rattle.protocol.proofs.Marks.{put-of, stood-since}
 use Rattle.protocol.proofs.Tids.{tid-holds-id, dead-of, tid-left}
 
--- the process has its mark in place, and has run its line 9
+-- the process is armed, with its mark in place
 pub record Armed {V : Type 0} (w : World V) (p a τ : ℕ) : Type 0 where
   pub in-val : w .val a ≡ id-cell p τ
   pub stands : w .stage p ≡ armed a
@@ -72,7 +72,7 @@ module _ {V : Type 0} (H : History V) where
         [ yes i ↦ elim (decLe c d) [ yes j ↦ omega arith | no j ↦ absurd (not-later d c p b a v u f e (sym g) (omega arith)) ]
         | no i ↦ absurd (not-later c d p a b u v e f g (omega arith)) ]
 
-  -- a mark whose process still waits for its line 11 was reset, if it is gone
+  -- a mark whose process still waits for its last CAS was reset, if it is gone
   pub was-reset : (s t p a : ℕ) (x : V) → s < t → H .event s ≡ mark p a x → H .event t ≡ fail p a → W s .tag p ≡ W t .tag p → Reset-between H s t p a
   was-reset s t p a x h e f g = fin (lasts P (suc s) step (inl (mark-does H s p a x e .0)) t h)
     where

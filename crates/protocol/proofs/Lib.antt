@@ -1,6 +1,7 @@
 pub mod Changes
 pub mod Time
 pub mod Views
+pub mod Prefix
 pub mod Stages
 pub mod Marks
 pub mod Tids

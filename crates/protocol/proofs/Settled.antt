@@ -58,6 +58,7 @@ module _ {V : Type 0} (H : History V) (ended : List (Finished V)) (C : Certified
   pub unlogged : (t : ℕ) → log t ≡ none → (o : Finished V) → o ∈ ended → o .effect ≡ t → ⊥
   unlogged t e o m = missing t (by-effect ended) e o (order-all ended o m)
 
+  -- a yes that sets a has taken effect and not yet committed: the store has its new value already
   record Pending (t a : ℕ) : Type 0 where
     o : Finished V
     new : V
@@ -66,6 +67,7 @@ module _ {V : Type 0} (H : History V) (ended : List (Finished V)) (C : Certified
     open-yet : t ≤ o .last
     holds : S t .value a ≡ new
 
+  -- no yes that sets a is under way: the store has what a stands for
   record Settled (t a : ℕ) : Type 0 where
     stands : Stands (W t) a (S t .value a)
     none-open : (o : Finished V) (new : V) → Sets ended o a new → o .effect < t → t ≤ o .last → ⊥

@@ -21,7 +21,7 @@ pub data ValStep {V : Type 0} (e : Event V) (w w′ : World V) (a : ℕ) : Type 
              → w′ .stage p ≡ idle → w′ .tag p ≡ w .tag p → ValStep e w w′ a
   v-reset : (r q τ : ℕ) (v : V) → e ≡ reset r a v → w .val a ≡ id-cell q τ → w .saved q ≡ Value v → w′ .val a ≡ Value v → ValStep e w w′ a
 
--- tid of a: it stays, or line 9 writes it
+-- tid of a: it stays, or is written
 pub data TidStep {V : Type 0} (e : Event V) (w w′ : World V) (a : ℕ) : Type 0 where
   t-same : w′ .tid a ≡ w .tid a → TidStep e w w′ a
   t-note : (p : ℕ) → e ≡ note p a → w .stage p ≡ held a → w′ .tid a ≡ own-id w p → w′ .stage p ≡ armed a → w′ .tag p ≡ w .tag p → TidStep e w w′ a

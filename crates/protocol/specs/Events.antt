@@ -8,14 +8,14 @@ use Rattle.protocol.specs.World.{Stage, World, id-cell, own-id, changed}
 use Rattle.protocol.specs.World.Stage.{idle, fresh, held, armed}
 
 -- The process that makes the step comes first.
--- look: it changes nothing, as a load or a CAS that says no.
--- begin: it begins a fresh attempt, with the next tag.
--- save: line 7 stores the value as its saved value.
--- mark: line 8 said yes; the value in val, which is its saved one, gives way to its own id.
--- note: line 9 stores its own id in the location's tid.
--- commit: line 11 said yes; the new value takes the place of its mark.
--- fail: line 11 said no; its mark was not there.
--- reset: line 3b said yes; the mark of some process gives way to that process's saved value.
+-- look: it changes nothing, as a load does, or a CAS that says no.
+-- begin: it begins a fresh attempt, with the next tag, and changes nothing else.
+-- save: it stores the value as its saved value (line 7).
+-- mark: its CAS puts its own id in val in place of its saved value (line 8 that says yes).
+-- note: it stores its own id in the location's tid (line 9).
+-- commit: its last CAS puts the new value in place of its mark (line 11 that says yes).
+-- fail: its last CAS finds that its mark is gone (line 11 that says no).
+-- reset: its CAS puts, in place of the mark of some process, that process's saved value (line 3b that says yes).
 pub data Event (V : Type 0) : Type 0 where
   look : (maker : ℕ) → Event V
   begin : (maker : ℕ) → Event V
@@ -37,8 +37,9 @@ maker (commit process location value) = process
 maker (fail process location) = process
 maker (reset process location value) = process
 
--- When an event can come: begin where no mark of the process may stand, that is from idle and, after a line 8 that
--- said no, from fresh; the others as their lines follow each other and as their CAS answers.
+-- When an event can come: begin from idle and, after a CAS that put no mark, from fresh; save and mark from fresh;
+-- note once the mark was put; commit and fail once the tid was written, as the mark stands or not. Mark and reset ask
+-- besides that val and the saved value are such that their CAS says yes and does what it is said to do.
 abbrev pub Possible : {V : Type 0} → Event V → World V → Type 0
 Possible (look process) world = Unit {0}
 Possible (begin process) world = (world .stage process ≡ idle) ⊎ (world .stage process ≡ fresh)

@@ -8,8 +8,8 @@ use Rattle.memory.specs.declared.cell.Cell.{Cell}
 use Rattle.memory.specs.declared.cell.Cell.the-variants.{Value, Id}
 
 -- How far the attempt of a process has come. Idle: no attempt is under way. Fresh: it has a new tag and has put no
--- mark. Held: its mark was put at the location, and line 9 has not run. Armed: line 9 has written its id to the
--- location's tid, and its last CAS, line 11, has not run.
+-- mark. Held: its mark was put at the location, and its id is still to be written to the location's tid (line 9).
+-- Armed: that is done, and its last CAS (line 11) is to come.
 pub data Stage : Type 0 where
   idle : Stage
   fresh : Stage
@@ -42,4 +42,5 @@ changed row place new other = cond (eqb other place) new (row other)
 abbrev pub Stands : {V : Type 0} → World V → (location : ℕ) → V → Type 0
 Stands world location value =
   (world .val location ≡ Value value)
-  ⊎ ((process : ℕ) × (tag : ℕ) × (world .val location ≡ id-cell process tag) × (world .saved process ≡ Value value))
+  ⊎ ((process : ℕ) × (tag : ℕ) × (world .val location ≡ id-cell process tag)
+                   × (world .saved process ≡ Value value))
