@@ -1,0 +1,15 @@
+pub mod Changes
+pub mod Time
+pub mod Views
+pub mod Prefix
+pub mod Stages
+pub mod Marks
+pub mod Tids
+pub mod Values
+pub mod Attempts
+pub mod Listing
+pub mod Replaying
+pub mod Spans
+pub mod Settled
+pub mod Links
+pub mod Ordered

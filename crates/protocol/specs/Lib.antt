@@ -1,0 +1,12 @@
+pub mod World
+pub mod Events
+pub mod History
+pub mod Past
+pub mod Operations
+pub mod Store
+pub mod Replay
+pub mod Lists
+pub mod Seen
+pub mod Certificates
+pub mod Certified
+pub mod Order

@@ -1,0 +1,57 @@
+// The protocol: what processes do to the shared cells of a memory, told by worlds, events and histories, and why the
+// order of their operations by effect step is lawful. It is model and proof alone: each theorem is the contract of a
+// function that does nothing else. V is the type of the values, any type.
+// Uses the cells of memories.
+ghost use Rattle.protocol.specs.Past.{Marks-owned, Ids-never-return, Tids-guard-values, Changes-by-commit, Lost-mark-was-reset};
+ghost use Rattle.protocol.specs.Replay.{Replays-agree};
+ghost use Rattle.protocol.specs.Order.{Order-law};
+
+// An id in val of a location is the own id of its process, which has its mark there and a value saved.
+pub fn marks_are_owned<V>() -> u8
+    ensures { λ _. ⌜ Marks-owned V ⌝ }
+{
+    0
+}
+
+// What a tid has lost it never has again, and an id that stands in a val at two times stood there between.
+pub fn ids_never_return<V>() -> u8
+    ensures { λ _. ⌜ Ids-never-return V ⌝ }
+{
+    0
+}
+
+// While the tid of a location stays the same, a value found there stays, and no commit comes.
+pub fn tids_guard_values<V>() -> u8
+    ensures { λ _. ⌜ Tids-guard-values V ⌝ }
+{
+    0
+}
+
+// Each location stands for one value at each time, and for another only after a commit of that value.
+pub fn changes_by_commit<V>() -> u8
+    ensures { λ _. ⌜ Changes-by-commit V ⌝ }
+{
+    0
+}
+
+// The last CAS of an attempt says no only if the attempt's mark was reset.
+pub fn lost_mark_was_reset<V>() -> u8
+    ensures { λ _. ⌜ Lost-mark-was-reset V ⌝ }
+{
+    0
+}
+
+// The replay of operations on the store, as a relation and by recursion, is the same.
+pub fn replays_agree<V>() -> u8
+    ensures { λ _. ⌜ Replays-agree V ⌝ }
+{
+    0
+}
+
+// The one-at-a-time store allows the finished operations of a history, lowest effect step first; it then holds what
+// every location stands for, and an SC said no only after a reset of its mark.
+pub fn order_stands<V>() -> u8
+    ensures { λ _. ⌜ Order-law V ⌝ }
+{
+    0
+}
