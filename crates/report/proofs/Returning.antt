@@ -1,25 +1,22 @@
 -- A sheet that was read gives its bytes back, when it is written into an output that is as long as they are.
 use mathlib.Core.Bool.{Bool, true, cond}
-use mathlib.Core.List.{List, [], _∷_, _++_, append-nil}
+use mathlib.Core.List.{List, _++_, append-nil}
 use mathlib.Core.Path.{_≡_, sym, ap, _∙_}
-use Prim.Native.Nat.{ℕ, suc, _≤_}
+use Prim.Native.Nat.{ℕ, _≤_}
 use native.Mathlib.Omega.{arith}
-use mir.Facts.{fits-lt-pow}
-use mir.Syntax.{w8}
-use mir.Val.{Fits}
-use lib.ListN.{length, getD, drop}
+use lib.ListN.{length, drop}
 use Rattle.std.specs.Results.{isOk}
 use Rattle.std.specs.declared.result.Result.{Result}
-use Rattle.std.specs.declared.result.Result.the-variants.{Ok}
 use Rattle.std.proofs.shelf.Lists.{drop-all}
 use Rattle.sheet.specs.declared.fault.SheetFault.{SheetFault}
-use Rattle.sheet.specs.Bytes.{AllBytes, overwritten}
+use Rattle.sheet.specs.Bytes.{overwritten}
 use Rattle.sheet.specs.Format.{sheet-bytes}
 use Rattle.sheet.specs.Parts.{Parts}
-use Rattle.sheet.specs.Writing.{write-answer, write-after}
+use Rattle.sheet.specs.RoundTrip.{GivesBack}
+use Rattle.sheet.specs.Writing.{write-after}
 
 pub comes-back : {V : Type 0} (code : V → ℕ) (number : ℕ) (p : Parts V) (bytes out : List ℕ)
-  → (sheet-bytes code number p ≡ bytes) × ((room : ℕ) → length bytes ≤ room → write-answer p room ≡ Ok (length bytes))
+  → GivesBack code number p bytes
   → length out ≡ length bytes → write-after p code number out ≡ bytes
 comes-back code number p bytes out back long =
   let room : length bytes ≤ length out = omega arith in
@@ -29,8 +26,3 @@ comes-back code number p bytes out back long =
   ∙ ap (λ (bs : List ℕ). overwritten bs out) (back .0)
   ∙ ap (λ (rest : List ℕ). bytes ++ rest) (drop-all (length bytes) out past)
   ∙ append-nil bytes
-
--- the elements of a slice of bytes are bytes
-pub all-bytes : (bytes : List ℕ) → ((i : ℕ) → Fits w8 (getD bytes i 0)) → AllBytes bytes
-all-bytes [] fits = tt
-all-bytes (b ∷ rest) fits = (fits-lt-pow (fits 0), all-bytes rest (λ i. fits (suc i)))

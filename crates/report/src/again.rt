@@ -2,14 +2,11 @@
 // read; that they are the same is proved. Uses the writer of `sheet`.
 ghost use mathlib.Core.Bool.{true};
 ghost use mathlib.Core.Path.{_≡_};
-ghost use Prim.Native.Nat.{ℕ, _≤_};
 ghost use lib.ListN.{length};
 ghost use Rattle.std.specs.Of.String.{string-bytes};
 ghost use Rattle.std.specs.Vec.{made};
-ghost use Rattle.std.specs.declared.result.Result.the-variants.{Ok};
-ghost use Rattle.sheet.specs.Format.{sheet-bytes};
 ghost use Rattle.sheet.specs.Parts.{parts-of};
-ghost use Rattle.sheet.specs.Writing.{write-answer};
+ghost use Rattle.sheet.specs.RoundTrip.{GivesBack};
 ghost use Rattle.report.specs.Lines.{again-line};
 ghost use Rattle.report.specs.Texts.{Adds};
 use sheet::Sheet;
@@ -27,7 +24,7 @@ pub struct Again {
 
 // Writes a sheet into an output that is as long as the bytes that it was read from, and compares.
 pub fn write_again<V: ValueKind>(heap: Global, sheet: &Sheet<V>, bytes: &[u8]) -> Result<Again, AllocError>
-    requires { ⌜ (sheet-bytes coded number (parts-of (now sheet)) ≡ now bytes) × ((room : ℕ) → length (now bytes) ≤ room → write-answer (parts-of (now sheet)) room ≡ Ok (length (now bytes))) ⌝ }
+    requires { ⌜ GivesBack coded number (parts-of (now sheet)) (now bytes) ⌝ }
     ensures { λ r. ⌜ made r (λ again. (again .long ≡ length (now (bytes .entry))) × (again .same ≡ true)) ⌝ }
 {
     let mut out = vec![in heap; 0u8; bytes.len()]?;

@@ -3,16 +3,14 @@
 ghost use mathlib.Core.Bool.{true, false};
 ghost use mathlib.Core.Path.{_≡_};
 ghost use mathlib.Core.List.{_++_};
-ghost use Prim.Native.Nat.{ℕ, _≤_};
 ghost use lib.ListN.{length};
 ghost use Rattle.std.specs.Of.String.{string-bytes};
 ghost use Rattle.std.specs.Results.{isOk};
 ghost use Rattle.std.specs.Vec.{made};
 ghost use Rattle.std.specs.declared.result.Result.the-variants.{Ok};
-ghost use Rattle.sheet.specs.Format.{sheet-bytes};
 ghost use Rattle.sheet.specs.Parts.{parts-of};
 ghost use Rattle.sheet.specs.Reading.{read-answer};
-ghost use Rattle.sheet.specs.Writing.{write-answer};
+ghost use Rattle.sheet.specs.RoundTrip.{GivesBack};
 ghost use Rattle.report.specs.Lines.{again-line, refusal-line};
 ghost use Rattle.report.specs.Texts.{Adds, Reports, parts-text, answer-text, is-links, report-text, is-accepted};
 use crate::again::Again;
@@ -28,7 +26,6 @@ use crate::refusal::push_refusal;
 use sheet::ReadError;
 use sheet::Sheet;
 use sheet::SheetFault;
-use sheet::round_trips;
 use std::alloc::AllocError;
 use std::alloc::Global;
 use std::fmt;
@@ -59,7 +56,7 @@ fn push_sheet<V: ValueKind>(out: &mut String, sheet: &Sheet<V>, long: usize, aga
 
 // The report on a sheet that was read from these bytes.
 fn report_sheet<V: ValueKind>(heap: Global, sheet: &Sheet<V>, bytes: &[u8]) -> Result<Report, AllocError>
-    requires { ⌜ (sheet-bytes coded number (parts-of (now sheet)) ≡ now bytes) × ((room : ℕ) → length (now bytes) ≤ room → write-answer (parts-of (now sheet)) room ≡ Ok (length (now bytes))) ⌝ }
+    requires { ⌜ GivesBack coded number (parts-of (now sheet)) (now bytes) ⌝ }
     ensures { λ r. ⌜ made r (λ t. Reports t (answer-text coded number (length (now (bytes .entry))) (Ok (parts-of (now (sheet .entry))))) true) ⌝ }
 {
     let again = write_again(heap, sheet, bytes)?;
@@ -85,7 +82,6 @@ fn report_refusal(heap: Global, fault: SheetFault) -> Result<Report, AllocError>
 fn report_of<V: ValueKind>(heap: Global, bytes: &[u8]) -> Result<Report, AllocError>
     ensures { λ r. ⌜ made r (λ t. Reports t (answer-text coded number (length (now (bytes .entry))) (read-answer decoded (now (bytes .entry)) number)) (isOk (read-answer decoded (now (bytes .entry)) number))) ⌝ }
 {
-    round_trips::<V>();
     match Sheet::<V>::read(heap, bytes) {
         Ok(sheet) => report_sheet(heap, &sheet, bytes),
         Err(ReadError::Fault(fault)) => report_refusal(heap, fault),
