@@ -24,7 +24,7 @@ at-none (o ∷ rest) (suc i) h = at-none rest i (omega arith)
 module _ {X : Type 0} (test : X → Bool) (all : List X → Bool) (none : all [] ≡ true) (more : (x : X) (rest : List X) → all (x ∷ rest) ≡ (test x && all rest)) (xs : List X) (i : ℕ) where
   pub walk-more : (x : X) (b : Bool) → i < length xs → x ≡ getD xs i x → test x ≡ b → all (drop i xs) ≡ (b && all (drop (i + 1) xs))
   walk-more x b h is t =
-    at-drop-more all xs i x h ∙ ap (λ y. all (y ∷ drop (i + 1) xs)) (sym is) ∙ more x (drop (i + 1) xs) ∙ ap (λ y. y && all (drop (i + 1) xs)) t
+      at-drop-more all xs i x h ∙ ap (λ y. all (y ∷ drop (i + 1) xs)) (sym is) ∙ more x (drop (i + 1) xs) ∙ ap (λ y. y && all (drop (i + 1) xs)) t
 
   pub walk-all : length xs ≤ i → all (drop i xs) ≡ true
   walk-all h = at-drop-all all xs i h ∙ none

@@ -169,10 +169,10 @@ module _ {V : Type 0} (code : V → ℕ) (kind : OperationKind) (operands : List
   -- its SNAPSHOT's effect; else its yes ends it, and its no begins afresh.
   abbrev pub kcss-swapped : Bool → Operand V → Option (Turn V)
   kcss-swapped said first = cond (meets code first)
-    (cond (all-meet code operands)
+      (cond (all-meet code operands)
       (cond said (cond (ltb 1 (length operands)) (Some (turn.Ends Yes AtCollect)) (Some (turn.Ends Yes Here))) (on Attempt))
       (Some (turn.Ends No AtCollect)))
-    (Some (turn.Ends No AtMark))
+      (Some (turn.Ends No AtMark))
 
   abbrev pub swapped-by : OperationKind → Bool → Operand V → Option (Turn V)
   swapped-by Read said first = None

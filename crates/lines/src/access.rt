@@ -26,13 +26,24 @@ fn read_access<V: ValueKind>(location: u16, read: &ReadPhase<V>) -> (Line, Acces
         ReadPhase::LookAgain => (Line::L1, Access::Load(val)),
         ReadPhase::Fetch { kept } => (Line::L3a, Access::Load(Place::Saved(kept.process))),
         ReadPhase::Reset { kept, saved } => {
-            (Line::L3b, Access::Cas { place: val, old: Cell::Id(*kept), new: Cell::Value(*saved) })
+            (
+                Line::L3b,
+                Access::Cas {
+                    place: val,
+                    old: Cell::Id(*kept),
+                    new: Cell::Value(*saved),
+                },
+            )
         }
     }
 }
 
 // The value that 11 writes: the new value, or the LL's where a value of a KCSS differs from its expected one.
-fn swap_value<V: ValueKind>(kind: OperationKind, operands: &[Operand<V>], new: Option<V>) -> Option<V>
+fn swap_value<V: ValueKind>(
+    kind: OperationKind,
+    operands: &[Operand<V>],
+    new: Option<V>,
+) -> Option<V>
     ensures { λ r. ⌜ r ≡ swap-value coded kind (now (operands .entry)) new ⌝ }
 {
     match kind {
@@ -58,21 +69,41 @@ fn line_access<V: ValueKind>(
         Phase::Attempt => Some((Line::L13, Access::Load(Place::Val(first)))),
         Phase::Save { kept } => Some((Line::L7, Access::Store(Place::Saved(own.process), *kept))),
         Phase::Mark { kept } => {
-            Some((Line::L8, Access::Cas { place: Place::Val(first), old: *kept, new: Cell::Id(own) }))
+            Some((
+                Line::L8,
+                Access::Cas {
+                    place: Place::Val(first),
+                    old: *kept,
+                    new: Cell::Id(own),
+                },
+            ))
         }
         Phase::Note { .. } => Some((Line::L9, Access::Store(Place::Tid(first), Cell::Id(own)))),
         Phase::FirstId { operand } => {
-            Some((Line::S6, Access::Load(Place::Tid(operand_at(operands, *operand)?.location))))
+            Some((
+                Line::S6,
+                Access::Load(Place::Tid(operand_at(operands, *operand)?.location)),
+            ))
         }
         Phase::FirstCollect { operand, read } | Phase::SecondCollect { operand, read } => {
             Some(read_access(operand_at(operands, *operand)?.location, read))
         }
         Phase::SecondId { operand } => {
-            Some((Line::S9, Access::Load(Place::Tid(operand_at(operands, *operand)?.location))))
+            Some((
+                Line::S9,
+                Access::Load(Place::Tid(operand_at(operands, *operand)?.location)),
+            ))
         }
         Phase::Swap => {
             let new = Cell::Value(swap_value(kind, operands, new)?);
-            Some((Line::L11, Access::Cas { place: Place::Val(first), old: Cell::Id(own), new }))
+            Some((
+                Line::L11,
+                Access::Cas {
+                    place: Place::Val(first),
+                    old: Cell::Id(own),
+                    new,
+                },
+            ))
         }
     }
 }

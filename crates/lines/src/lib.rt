@@ -2,13 +2,14 @@
 // what the access found. Nothing here touches a memory or a table.
 // Uses value kinds, cells and the kinds of operations.
 mod access;
-mod moves;
 mod compare;
+mod moves;
 mod name;
 mod phase;
 mod records;
 mod suits;
 mod turn;
+
 pub use access::next_access;
 pub use moves::ReadTurn;
 pub use moves::ReadTurnClone;

@@ -2,7 +2,7 @@
 ghost use mathlib.Core.Path.{_≡_};
 ghost use lib.ListN.{length};
 ghost use Rattle.std.specs.declared.option.Option.the-variants.{Some};
-ghost use Rattle.lines.specs.declared.turn.Turn.the-variants.{On};
+ghost use Rattle.lines.specs.declared.turn.Turn.the-variants.{On, Ends};
 ghost use Rattle.lines.specs.declared.turn.Milestone.the-variants.{Plain};
 ghost use Rattle.lines.specs.Advancing.{read-turn, finding-of, next-operand, noted, compared, swapped, holds-value, first-collected, second-collected, turn-of};
 use crate::compare::all_meet;
@@ -41,9 +41,14 @@ pub fn read_turn<V: ValueKind>(read: &ReadPhase<V>, seen: &Seen<V>) -> Option<Re
         (ReadPhase::Look, Seen::Found(Cell::Value(value))) => Some(ReadTurn::Got(*value)),
         (ReadPhase::Look, Seen::Found(Cell::Id(_))) => Some(ReadTurn::On(ReadPhase::LookAgain)),
         (ReadPhase::LookAgain, Seen::Found(Cell::Value(_))) => Some(ReadTurn::On(ReadPhase::Look)),
-        (ReadPhase::LookAgain, Seen::Found(Cell::Id(kept))) => Some(ReadTurn::On(ReadPhase::Fetch { kept: *kept })),
+        (ReadPhase::LookAgain, Seen::Found(Cell::Id(kept))) => Some(ReadTurn::On(ReadPhase::Fetch {
+            kept: *kept,
+        })),
         (ReadPhase::Fetch { kept }, Seen::Found(Cell::Value(saved))) => {
-            Some(ReadTurn::On(ReadPhase::Reset { kept: *kept, saved: *saved }))
+            Some(ReadTurn::On(ReadPhase::Reset {
+                kept: *kept,
+                saved: *saved,
+            }))
         }
         (ReadPhase::Reset { .. }, Seen::Said(_)) => Some(ReadTurn::On(ReadPhase::Look)),
         _ => None,
@@ -56,18 +61,34 @@ pub fn finding_of<V: ValueKind>(phase: &Phase<V>, seen: &Seen<V>) -> Option<Find
 {
     match (phase, seen) {
         (Phase::Reading(ReadPhase::Look), Seen::Found(Cell::Value(value))) => {
-            Some(Finding::First { operand: 0, value: *value })
+            Some(Finding::First(0, *value))
         }
-        (Phase::Note { kept: Cell::Value(value) }, _) => Some(Finding::First { operand: 0, value: *value }),
-        (Phase::FirstCollect { operand, read: ReadPhase::Look }, Seen::Found(Cell::Value(value))) => {
-            Some(Finding::First { operand: *operand, value: *value })
-        }
-        (Phase::SecondCollect { operand, read: ReadPhase::Look }, Seen::Found(Cell::Value(value))) => {
-            Some(Finding::Second { operand: *operand, value: *value })
-        }
-        (Phase::FirstId { operand }, Seen::Found(Cell::Id(id))) => Some(Finding::FirstId { operand: *operand, id: *id }),
+        (
+            Phase::Note {
+                kept: Cell::Value(value),
+            },
+            _,
+        ) => Some(Finding::First(0, *value)),
+        (
+            Phase::FirstCollect {
+                operand,
+                read: ReadPhase::Look,
+            },
+            Seen::Found(Cell::Value(value)),
+        ) => { Some(Finding::First(*operand, *value)) }
+        (
+            Phase::SecondCollect {
+                operand,
+                read: ReadPhase::Look,
+            },
+            Seen::Found(Cell::Value(value)),
+        ) => { Some(Finding::Second(*operand, *value)) }
+        (Phase::FirstId { operand }, Seen::Found(Cell::Id(id))) => Some(Finding::FirstId(
+            *operand,
+            *id,
+        )),
         (Phase::SecondId { operand }, Seen::Found(Cell::Id(id))) => {
-            Some(Finding::SecondId { operand: *operand, id: *id })
+            Some(Finding::SecondId(*operand, *id))
         }
         (Phase::FirstId { .. }, _) | (Phase::SecondId { .. }, _) | (Phase::Note { .. }, _) => None,
         _ => Some(Finding::Nothing),
@@ -88,7 +109,17 @@ fn next_operand<V: ValueKind>(operands: &[Operand<V>], operand: usize) -> Option
 fn on<V: ValueKind>(phase: Phase<V>) -> Option<Turn<V>>
     ensures { λ r. ⌜ r ≡ Some (On phase Plain) ⌝ }
 {
-    Some(Turn::On { phase, milestone: Milestone::Plain })
+    Some(Turn::On {
+        phase,
+        milestone: Milestone::Plain,
+    })
+}
+
+// To the end of the operation.
+fn ends<V: ValueKind>(answer: Answer, effect: Effect) -> Option<Turn<V>>
+    ensures { λ r. ⌜ r ≡ Some (Ends answer effect) ⌝ }
+{
+    Some(Turn::Ends { answer, effect })
 }
 
 // Where the 9 of an LL leads: to its end, or on to the rest of a KCSS.
@@ -96,7 +127,7 @@ fn noted<V: ValueKind>(kind: OperationKind, operands: &[Operand<V>]) -> Option<T
     ensures { λ r. ⌜ r ≡ noted kind (length (now (operands .entry))) ⌝ }
 {
     match kind {
-        OperationKind::Ll => Some(Turn::Ends { answer: Answer::Values, effect: Effect::AtMark }),
+        OperationKind::Ll => ends(Answer::Values, Effect::AtMark),
         OperationKind::Kcss if operands.len() > 1 => on(Phase::FirstId { operand: 1 }),
         OperationKind::Kcss => on(Phase::Swap),
         _ => None,
@@ -110,25 +141,29 @@ fn compared<V: ValueKind>(kind: OperationKind, operands: &[Operand<V>]) -> Optio
     let from = snapshot_from(kind);
     match kind {
         _ if !all_still(operands, from) => on(Phase::FirstId { operand: from }),
-        OperationKind::Snapshot => Some(Turn::Ends { answer: Answer::Values, effect: Effect::AtCollect }),
+        OperationKind::Snapshot => ends(Answer::Values, Effect::AtCollect),
         OperationKind::Kcss => on(Phase::Swap),
         _ => None,
     }
 }
 
 // Where 11 leads, by what its CAS said.
-fn swapped<V: ValueKind>(kind: OperationKind, operands: &[Operand<V>], said: bool) -> Option<Turn<V>>
+fn swapped<V: ValueKind>(
+    kind: OperationKind,
+    operands: &[Operand<V>],
+    said: bool,
+) -> Option<Turn<V>>
     ensures { λ r. ⌜ r ≡ swapped coded kind (now (operands .entry)) said ⌝ }
 {
     let first = operand_at(operands, 0)?;
     match kind {
-        OperationKind::Sc if said => Some(Turn::Ends { answer: Answer::Yes, effect: Effect::Here }),
-        OperationKind::Sc => Some(Turn::Ends { answer: Answer::No, effect: Effect::Here }),
-        OperationKind::Kcss if !is_met(&first) => Some(Turn::Ends { answer: Answer::No, effect: Effect::AtMark }),
-        OperationKind::Kcss if !all_meet(operands) => Some(Turn::Ends { answer: Answer::No, effect: Effect::AtCollect }),
+        OperationKind::Sc if said => ends(Answer::Yes, Effect::Here),
+        OperationKind::Sc => ends(Answer::No, Effect::Here),
+        OperationKind::Kcss if !is_met(&first) => ends(Answer::No, Effect::AtMark),
+        OperationKind::Kcss if !all_meet(operands) => ends(Answer::No, Effect::AtCollect),
         OperationKind::Kcss if !said => on(Phase::Attempt),
-        OperationKind::Kcss if operands.len() > 1 => Some(Turn::Ends { answer: Answer::Yes, effect: Effect::AtCollect }),
-        OperationKind::Kcss => Some(Turn::Ends { answer: Answer::Yes, effect: Effect::Here }),
+        OperationKind::Kcss if operands.len() > 1 => ends(Answer::Yes, Effect::AtCollect),
+        OperationKind::Kcss => ends(Answer::Yes, Effect::Here),
         _ => None,
     }
 }
@@ -145,26 +180,44 @@ pub fn advance<V: ValueKind>(
     match (phase, seen) {
         (Phase::Reading(read), _) => match read_turn(read, seen)? {
             ReadTurn::On(read) => on(Phase::Reading(read)),
-            ReadTurn::Got(_) => Some(Turn::Ends { answer: Answer::Values, effect: Effect::Here }),
+            ReadTurn::Got(_) => ends(Answer::Values, Effect::Here),
         },
         (Phase::Attempt, Seen::Found(cell)) if is_value(cell) => on(Phase::Save { kept: *cell }),
         (Phase::Attempt, Seen::Found(_)) => on(Phase::Linking(ReadPhase::LookAgain)),
         (Phase::Linking(read), _) => match read_turn(read, seen)? {
             ReadTurn::On(read) => on(Phase::Linking(read)),
-            ReadTurn::Got(value) => on(Phase::Save { kept: Cell::Value(value) }),
+            ReadTurn::Got(value) => on(Phase::Save {
+                kept: Cell::Value(value),
+            }),
         },
         (Phase::Save { kept }, Seen::Stored) => on(Phase::Mark { kept: *kept }),
         (Phase::Mark { kept }, Seen::Said(yes)) if *yes => {
-            Some(Turn::On { phase: Phase::Note { kept: *kept }, milestone: Milestone::Marked })
+            Some(Turn::On {
+                phase: Phase::Note { kept: *kept },
+                milestone: Milestone::Marked,
+            })
         }
         (Phase::Mark { .. }, Seen::Said(_)) => on(Phase::Attempt),
         (Phase::Note { .. }, Seen::Stored) => noted(kind, operands),
         (Phase::FirstId { operand }, Seen::Found(_)) => match next_operand(operands, *operand) {
             Some(operand) => on(Phase::FirstId { operand }),
-            None => on(Phase::FirstCollect { operand: snapshot_from(kind), read: ReadPhase::Look }),
+            None => on(Phase::FirstCollect {
+                operand: snapshot_from(kind),
+                read: ReadPhase::Look,
+            }),
         },
-        (Phase::FirstCollect { operand, read }, _) => first_collected(kind, operands, *operand, read_turn(read, seen)?),
-        (Phase::SecondCollect { operand, read }, _) => second_collected(kind, operands, *operand, read_turn(read, seen)?),
+        (Phase::FirstCollect { operand, read }, _) => first_collected(
+            kind,
+            operands,
+            *operand,
+            read_turn(read, seen)?,
+        ),
+        (Phase::SecondCollect { operand, read }, _) => second_collected(
+            kind,
+            operands,
+            *operand,
+            read_turn(read, seen)?,
+        ),
         (Phase::SecondId { operand }, Seen::Found(_)) => match next_operand(operands, *operand) {
             Some(operand) => on(Phase::SecondId { operand }),
             None => compared(kind, operands),
@@ -186,9 +239,15 @@ fn first_collected<V: ValueKind>(
     match turn {
         ReadTurn::On(read) => on(Phase::FirstCollect { operand, read }),
         ReadTurn::Got(_) => match next_operand(operands, operand) {
-            Some(operand) => on(Phase::FirstCollect { operand, read: ReadPhase::Look }),
+            Some(operand) => on(Phase::FirstCollect {
+                operand,
+                read: ReadPhase::Look,
+            }),
             None => Some(Turn::On {
-                phase: Phase::SecondCollect { operand: snapshot_from(kind), read: ReadPhase::Look },
+                phase: Phase::SecondCollect {
+                    operand: snapshot_from(kind),
+                    read: ReadPhase::Look,
+                },
                 milestone: Milestone::Collected,
             }),
         },
@@ -207,8 +266,13 @@ fn second_collected<V: ValueKind>(
     match turn {
         ReadTurn::On(read) => on(Phase::SecondCollect { operand, read }),
         ReadTurn::Got(_) => match next_operand(operands, operand) {
-            Some(operand) => on(Phase::SecondCollect { operand, read: ReadPhase::Look }),
-            None => on(Phase::SecondId { operand: snapshot_from(kind) }),
+            Some(operand) => on(Phase::SecondCollect {
+                operand,
+                read: ReadPhase::Look,
+            }),
+            None => on(Phase::SecondId {
+                operand: snapshot_from(kind),
+            }),
         },
     }
 }

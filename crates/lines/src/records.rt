@@ -28,7 +28,11 @@ pub enum Place {
 pub enum Access<V> {
     Load(Place),
     Store(Place, Cell<V>),
-    Cas { place: Place, old: Cell<V>, new: Cell<V> },
+    Cas {
+        place: Place,
+        old: Cell<V>,
+        new: Cell<V>,
+    },
 }
 
 // What an access found: the cell that was loaded, or what a CAS said.

@@ -33,11 +33,16 @@ pub fn suits<V: ValueKind>(kind: OperationKind, phase: &Phase<V>) -> bool
     match phase {
         Phase::Idle => false,
         Phase::Reading(_) => matches!(kind, OperationKind::Read),
-        Phase::Attempt | Phase::Linking(_) | Phase::Save { .. } | Phase::Mark { .. } | Phase::Note { .. } => {
-            matches!(kind, OperationKind::Ll | OperationKind::Kcss)
-        }
+        Phase::Attempt
+        | Phase::Linking(_)
+        | Phase::Save { .. }
+        | Phase::Mark { .. }
+        | Phase::Note { .. } => { matches!(kind, OperationKind::Ll | OperationKind::Kcss) }
         Phase::FirstId { operand } | Phase::SecondId { operand } => collects_from(kind, *operand),
-        Phase::FirstCollect { operand, .. } | Phase::SecondCollect { operand, .. } => collects_from(kind, *operand),
+        Phase::FirstCollect { operand, .. } | Phase::SecondCollect { operand, .. } => collects_from(
+            kind,
+            *operand,
+        ),
         Phase::Swap => matches!(kind, OperationKind::Sc | OperationKind::Kcss),
     }
 }

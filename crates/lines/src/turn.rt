@@ -3,14 +3,14 @@ use crate::phase::Phase;
 use crate::phase::PhaseClone;
 use memory::TaggedId;
 
-// What a line records in an operand.
+// What a line records in the operand of this index: an id or a value, of the first or the second collect.
 #[derive(Clone, Copy)]
 pub enum Finding<V> {
     Nothing,
-    FirstId { operand: usize, id: TaggedId },
-    First { operand: usize, value: V },
-    Second { operand: usize, value: V },
-    SecondId { operand: usize, id: TaggedId },
+    FirstId(usize, TaggedId),
+    First(usize, V),
+    Second(usize, V),
+    SecondId(usize, TaggedId),
 }
 
 // Which step may turn out to be the operation's effect step.
@@ -43,6 +43,12 @@ pub enum Milestone {
 // Where the process goes: on to another phase, or to the end of its operation.
 #[derive(Clone, Copy)]
 pub enum Turn<V> {
-    On { phase: Phase<V>, milestone: Milestone },
-    Ends { answer: Answer, effect: Effect },
+    On {
+        phase: Phase<V>,
+        milestone: Milestone,
+    },
+    Ends {
+        answer: Answer,
+        effect: Effect,
+    },
 }

@@ -16,10 +16,10 @@ kind-number Kcss = 5
 
 abbrev pub kind-of : ℕ → Option OperationKind
 kind-of n = cond (eqb n 1) (Some Read)
-  (cond (eqb n 2) (Some Ll)
-  (cond (eqb n 3) (Some Sc)
-  (cond (eqb n 4) (Some Snapshot)
-  (cond (eqb n 5) (Some Kcss) None))))
+    (cond (eqb n 2) (Some Ll)
+    (cond (eqb n 3) (Some Sc)
+    (cond (eqb n 4) (Some Snapshot)
+    (cond (eqb n 5) (Some Kcss) None))))
 
 -- READ, LL and SC name one location; SNAPSHOT and KCSS name 1 to 16
 abbrev pub counted : OperationKind → ℕ → Bool

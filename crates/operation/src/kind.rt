@@ -47,19 +47,13 @@ impl OperationKind {
     pub fn takes_new(&self) -> bool
         ensures { λ r. ⌜ r ≡ takes-new (now (self .entry)) ⌝ }
     {
-        match self {
-            OperationKind::Sc | OperationKind::Kcss => true,
-            OperationKind::Read | OperationKind::Ll | OperationKind::Snapshot => false,
-        }
+        matches!(self, OperationKind::Sc | OperationKind::Kcss)
     }
 
     // Whether an operation of this kind is given expected values.
     pub fn takes_expected(&self) -> bool
         ensures { λ r. ⌜ r ≡ takes-expected (now (self .entry)) ⌝ }
     {
-        match self {
-            OperationKind::Kcss => true,
-            OperationKind::Read | OperationKind::Ll | OperationKind::Sc | OperationKind::Snapshot => false,
-        }
+        matches!(self, OperationKind::Kcss)
     }
 }

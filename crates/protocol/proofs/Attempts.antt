@@ -33,7 +33,7 @@ module _ {V : Type 0} (H : History V) where
 
   -- a process that is armed at e and commits with that tag at c was armed, with its mark in place, all the time
   pub armed-through : (e c p a : ℕ) (u : V) → W e .stage p ≡ armed a → W e .tag p ≡ W c .tag p → H .event c ≡ commit p a u
-                      → (t : ℕ) → e ≤ t → t ≤ c → Armed (W t) p a (W c .tag p)
+      → (t : ℕ) → e ≤ t → t ≤ c → Armed (W t) p a (W c .tag p)
   armed-through e c p a u s g k = back (λ t. Armed (W t) p a (W c .tag p)) e c step here
     where
       here : Armed (W c) p a (W c .tag p)
@@ -68,9 +68,10 @@ module _ {V : Type 0} (H : History V) where
 
   pub one-commit : (c d p a b : ℕ) (u v : V) → H .event c ≡ commit p a u → H .event d ≡ commit p b v → W c .tag p ≡ W d .tag p → c ≡ d
   one-commit c d p a b u v e f g =
-      elim (decLe d c)
-        [ yes i ↦ elim (decLe c d) [ yes j ↦ omega arith | no j ↦ absurd (not-later d c p b a v u f e (sym g) (omega arith)) ]
-        | no i ↦ absurd (not-later c d p a b u v e f g (omega arith)) ]
+      elim (decLe d c) [
+        | yes i ↦ elim (decLe c d) [ yes j ↦ omega arith | no j ↦ absurd (not-later d c p b a v u f e (sym g) (omega arith)) ]
+        | no i ↦ absurd (not-later c d p a b u v e f g (omega arith))
+      ]
 
   -- a mark whose process still waits for its last CAS was reset, if it is gone
   pub was-reset : (s t p a : ℕ) (x : V) → s < t → H .event s ≡ mark p a x → H .event t ≡ fail p a → W s .tag p ≡ W t .tag p → Reset-between H s t p a
@@ -88,14 +89,14 @@ module _ {V : Type 0} (H : History V) where
           go (v-mark q v k l n o r st tg sv) = clash (cc)
           go (v-commit q v k l n o st tg) =
               inr (λ j.
-                let z : q ≡ p = one-process (W y .val a) q p (W y .tag q) (W s .tag p) n m in
-                let z′ : W y .tag q ≡ W s .tag p = one-tag (W y .val a) q p (W y .tag q) (W s .tag p) n m in
-                let y1 : W (suc y) .tag p ≡ W t .tag p = cc in
-                let y2 : W (suc y) .stage p ≡ idle = cc in
-                let ov : Over (W (suc y)) p (W t .tag p) = (omega arith, λ q. y2) in
-                let w = over-lasts H p (W t .tag p) (suc y) t j ov .1 refl in
-                let b = fail-can H t p a f in
-                clash (cc (b .0)))
+              let z : q ≡ p = one-process (W y .val a) q p (W y .tag q) (W s .tag p) n m in
+              let z′ : W y .tag q ≡ W s .tag p = one-tag (W y .val a) q p (W y .tag q) (W s .tag p) n m in
+              let y1 : W (suc y) .tag p ≡ W t .tag p = cc in
+              let y2 : W (suc y) .stage p ≡ idle = cc in
+              let ov : Over (W (suc y)) p (W t .tag p) = (omega arith, λ q. y2) in
+              let w = over-lasts H p (W t .tag p) (suc y) t j ov .1 refl in
+              let b = fail-can H t p a f in
+              clash (cc (b .0)))
           go (v-reset r q τ v k l n o) =
               inr (λ j. record { step = y; by-process = r; value = v; after-mark = i; before-end = j; resets = k; its-mark = m })
 
@@ -104,9 +105,9 @@ module _ {V : Type 0} (H : History V) where
       fin (inr d) = d (omega arith)
 
   pub never-return : Never-return H
-  never-return = record
-    { an-id = tid-holds-id H
-    ; dead = dead-of H
-    ; in-tid = λ s u t a h k. tid-left H s u t a h k
-    ; in-val = λ s u t a q τ h k m n. stood-since H s t a q τ (put-of H s a q τ m) n u h k
-    }
+  never-return = record {
+    an-id = tid-holds-id H;
+    dead = dead-of H;
+    in-tid = λ s u t a h k. tid-left H s u t a h k;
+    in-val = λ s u t a q τ h k m n. stood-since H s t a q τ (put-of H s a q τ m) n u h k;
+  }

@@ -32,7 +32,7 @@ changed-else row place new other h = go (eqb other place) (λ t. h (eqb→eq oth
 
 -- the changed place, or another one
 pub here-or-else : {A : Type 0} (row : ℕ → A) (place : ℕ) (new : A) (other : ℕ)
-                   → ((other ≡ place) × (changed row place new other ≡ new)) ⊎ (changed row place new other ≡ row other)
+    → ((other ≡ place) × (changed row place new other ≡ new)) ⊎ (changed row place new other ≡ row other)
 here-or-else row place new other = go (ℕ-discrete other place)
   where
     go : Dec (other ≡ place) → ((other ≡ place) × (changed row place new other ≡ new)) ⊎ (changed row place new other ≡ row other)

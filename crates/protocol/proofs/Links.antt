@@ -116,5 +116,5 @@ module _ {V : Type 0} (H : History V) (ended : List (Finished V)) (C : Certified
                 let f = k .1 in
                 ap (λ z. feed z (S H ended C x) .link (o .process)) e
                 ∙ ap (break-links (change (o′ .request) (o′ .answer)))
-                    (relink-else (o′ .process) (o .process) (o′ .request) (S H ended C x .link) (λ g. L .latest o′ (k .0) g (omega arith) (omega arith)) ∙ ih (omega arith))
+                (relink-else (o′ .process) (o .process) (o′ .request) (S H ended C x .link) (λ g. L .latest o′ (k .0) g (omega arith) (omega arith)) ∙ ih (omega arith))
                 ∙ breaks-else (change (o′ .request) (o′ .answer)) a (λ v g. no-yes o′ v (k .0, g) (omega arith) (omega arith))

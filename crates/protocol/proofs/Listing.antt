@@ -40,7 +40,7 @@ module _ {V : Type 0} where
   insert-ascending o [] s h = (λ x m. absurd m, tt)
   insert-ascending o (y ∷ l) s h =
       go (leb (o .effect) (y .effect)) (leb→le (o .effect) (y .effect)) (le→leb (o .effect) (y .effect))
-        (insert-ascending o l (s .1) (λ x m. h x (inr m)))
+      (insert-ascending o l (s .1) (λ x m. h x (inr m)))
     where
       go : (b : Bool) → (T b → o .effect ≤ y .effect) → (o .effect ≤ y .effect → T b) → Ascending (insert o l) → Ascending (cond b (o ∷ y ∷ l) (y ∷ insert o l))
       go true k k′ ih = (first, s)
@@ -78,7 +78,7 @@ module _ {V : Type 0} where
   order-ascending [] same apart = tt
   order-ascending (o ∷ l) same apart =
       insert-ascending o (by-effect l) (order-ascending l (λ x y i j. same x y (inr i) (inr j)) (apart .1))
-        (λ x m e. apart .0 x (order-only l x m) (same o x (inl refl) (inr (order-only l x m)) e))
+      (λ x m e. apart .0 x (order-only l x m) (same o x (inl refl) (inr (order-only l x m)) e))
 
   -- a last step names its operation
   pub by-last : (l : List (Finished V)) → Apart l → (x y : Finished V) → x ∈ l → y ∈ l → x .last ≡ y .last → x ≡ y
@@ -109,7 +109,7 @@ module _ {V : Type 0} where
       there k = subst (λ z. T (eqb (x .effect) z)) k (eqb-refl (x .effect))
 
       go : (b : Bool) → (x .effect ≡ t → T b) → cond b (some x) (find t l) ≡ none → o ∈ (x ∷ l)
-           → (find t l ≡ none → (z : Finished V) → z ∈ l → z .effect ≡ t → ⊥) → ⊥
+          → (find t l ≡ none → (z : Finished V) → z ∈ l → z .effect ≡ t → ⊥) → ⊥
       go true k e m ih = clash (cc)
       go false k e (inl i) ih = k (ap (λ (z : Finished V). z .effect) (sym i) ∙ h)
       go false k e (inr n) ih = ih e o n h

@@ -24,7 +24,7 @@ module _ {V : Type 0} (H : History V) where
 
   -- a mark in a val is the own id of its process, put and not yet taken back
   marked-step : (t : ℕ) → ((a q τ : ℕ) → W t .val a ≡ id-cell q τ → Marked (W t) a q τ)
-                → (a q τ : ℕ) → W (suc t) .val a ≡ id-cell q τ → Marked (W (suc t)) a q τ
+      → (a q τ : ℕ) → W (suc t) .val a ≡ id-cell q τ → Marked (W (suc t)) a q τ
   marked-step t ih a q τ m = go (val-step H t a) (process-step H t q)
     where
       kept : W t .val a ≡ id-cell q τ → ProcessStep (H .event t) (W t) (W (suc t)) q → Marked (W (suc t)) a q τ
@@ -114,4 +114,4 @@ module _ {V : Type 0} (H : History V) where
   pub saved-stays : (s t a q τ : ℕ) → s ≤ t → W s .val a ≡ id-cell q τ → W t .val a ≡ id-cell q τ → W t .saved q ≡ W s .saved q
   saved-stays s t a q τ h m n =
       lasts (λ x. x ≤ t → W x .saved q ≡ W s .saved q) s
-        (λ x i ih j. saved-step x a q τ (stood-since s t a q τ (put-of s a q τ m) n x i (omega arith)) ∙ ih (omega arith)) (λ i. refl) t h (omega arith)
+      (λ x i ih j. saved-step x a q τ (stood-since s t a q τ (put-of s a q τ m) n x i (omega arith)) ∙ ih (omega arith)) (λ i. refl) t h (omega arith)

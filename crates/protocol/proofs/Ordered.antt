@@ -55,7 +55,7 @@ module _ {V : Type 0} (H : History V) (ended : List (Finished V)) (C : Certified
 
   -- the store allows each operation at its effect
   allowed-as : (o : Finished V) → o ∈ ended → (r : Request V) (s : Answer V) → change (o .request) (o .answer) ≡ change r s
-               → Shown H ended o r s → Allows (S H ended C (o .effect)) (o .process) r s
+      → Shown H ended o r s → Allows (S H ended C (o .effect)) (o .process) r s
   allowed-as o m (read a) (values l) e c = c .1 ∙ ap (λ x. x ∷ []) (sym (told H ended C (o .effect) a (c .0) (inl (c .2))))
   allowed-as o m (read a) (said y) e c = c
   allowed-as o m (ll a) (values l) e c = c .1 ∙ ap (λ x. x ∷ []) (sym (marked-told (o .effect) (o .process) a (c .0) (c .2)))
@@ -104,7 +104,7 @@ module _ {V : Type 0} (H : History V) (ended : List (Finished V)) (C : Certified
                 (d .0, elim (ℕ-discrete (o .effect) t) [ yes q ↦ absurd (j q) | no q ↦ omega arith ])
         go (some o) e [] r ih = let d = logged H ended C t o e in let i = d .1 in absurd (r .all o (d .0) (omega arith))
         go (some o) e (x ∷ l) r ih = then-on (S H ended C t) x l (S H ended C n) (subst (λ y. Allows (S H ended C y) (x .process) (x .request) (x .answer)) at-t (allowed x (r .only x (inl refl) .0)))
-                                       (subst (λ y. Replays (feed y (S H ended C t)) l (S H ended C n)) (e ∙ ap some same) (ih l rest))
+            (subst (λ y. Replays (feed y (S H ended C t)) l (S H ended C n)) (e ∙ ap some same) (ih l rest))
           where
             d : (o ∈ ended) × (o .effect ≡ t)
             d = logged H ended C t o e
@@ -138,14 +138,14 @@ module _ {V : Type 0} (H : History V) (ended : List (Finished V)) (C : Certified
       record { its-ll = i; step = r .step; by-process = r .by-process; value = r .value; after-mark = r .after-mark; before-end = r .before-end; resets = r .resets; its-mark = r .its-mark }
 
 pub order : {V : Type 0} → Order-law V
-order H ended n C q = record
-  { all = order-all ended
-  ; only = order-only ended
-  ; ascending = ascending H ended C
-  ; distinct = by-its-effect H ended C
-  ; store = S H ended C n
-  ; replays = replays-from H ended C n (q .all-ended) n 0 (omega arith) (by-effect ended)
-                (record { ascends = ascending H ended C; all = λ o m i. order-all ended o m; only = λ o m. (order-only ended o m, omega arith) })
-  ; stands = λ a. settles H ended C n a (λ t p v. q .no-commit t p a v)
-  ; failures = failed H ended C
-  }
+order H ended n C q = record {
+  all = order-all ended;
+  only = order-only ended;
+  ascending = ascending H ended C;
+  distinct = by-its-effect H ended C;
+  store = S H ended C n;
+  replays = replays-from H ended C n (q .all-ended) n 0 (omega arith) (by-effect ended)
+      (record { ascends = ascending H ended C; all = λ o m i. order-all ended o m; only = λ o m. (order-only ended o m, omega arith) });
+  stands = λ a. settles H ended C n a (λ t p v. q .no-commit t p a v);
+  failures = failed H ended C;
+}

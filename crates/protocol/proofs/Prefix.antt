@@ -23,7 +23,7 @@ pick-no (yes a) x y h = absurd (h a)
 pick-no (no k) x y h = refl
 
 module _ {V : Type 0} (at : ℕ → World V) (event : ℕ → Event V) (initial : ℕ → V) (opened : Opened (at 0) initial)
-         (leads : (t : ℕ) → at (suc t) ≡ after (event t) (at t)) where
+    (leads : (t : ℕ) → at (suc t) ≡ after (event t) (at t)) where
   at-to : ℕ → ℕ → World V
   at-to n t = pick (decLe t n) (at t) (at n)
 
@@ -36,10 +36,14 @@ module _ {V : Type 0} (at : ℕ → World V) (event : ℕ → Event V) (initial 
 
   -- the first n events, and looks from then on
   cut : (n : ℕ) → ((t : ℕ) → t < n → Possible (event t) (at t)) → History V
-  cut n possible = record
-    { at = at-to n; event = event-to n; initial = initial
-    ; opened = subst (λ w. Opened w initial) (sym (same-at n 0 (omega arith))) opened
-    ; possible = cans; leads = steps }
+  cut n possible = record {
+    at = at-to n;
+    event = event-to n;
+    initial = initial;
+    opened = subst (λ w. Opened w initial) (sym (same-at n 0 (omega arith))) opened;
+    possible = cans;
+    leads = steps;
+  }
     where
       events : (t : ℕ) → t < n → event-to n t ≡ event t
       events t h = unfold event-to in pick-yes (decLe (suc t) n) (event t) (look 0) h
@@ -52,27 +56,27 @@ module _ {V : Type 0} (at : ℕ → World V) (event : ℕ → Event V) (initial 
 
       cans : (t : ℕ) → Possible (event-to n t) (at-to n t)
       cans t =
-          elim (decLe (suc t) n)
-            [ yes h ↦ rw (events t h, same-at n t (omega arith)) (possible t h)
+          elim (decLe (suc t) n) [
+            | yes h ↦ rw (events t h, same-at n t (omega arith)) (possible t h)
             | no h ↦ rw (looks t h) tt
-            ]
+          ]
 
       steps : (t : ℕ) → at-to n (suc t) ≡ after (event-to n t) (at-to n t)
       steps t =
-          elim (decLe (suc t) n)
-            [ yes h ↦ rw (events t h, same-at n t (omega arith), same-at n (suc t) h) (leads t)
+          elim (decLe (suc t) n) [
+            | yes h ↦ rw (events t h, same-at n t (omega arith), same-at n (suc t) h) (leads t)
             | no h ↦ rw (looks t h) (past-n (suc t) (omega arith) ∙ sym (past-n t (omega arith)))
-            ]
+          ]
 
   module _ (next : (n : ℕ) (H : History V) → ((t : ℕ) → t ≤ n → H .at t ≡ at t) → Possible (event n) (at n)) where
     below : (n t : ℕ) → t < n → Possible (event t) (at t)
     unfolding cut
     below zero t h = absurd (omega arith)
     below (suc n) t h =
-        elim (ℕ-discrete t n)
-          [ yes e ↦ subst (λ x. Possible (event x) (at x)) (sym e) (next n (cut n (below n)) (λ s k. same-at n s k))
+        elim (ℕ-discrete t n) [
+          | yes e ↦ subst (λ x. Possible (event x) (at x)) (sym e) (next n (cut n (below n)) (λ s k. same-at n s k))
           | no k ↦ below n t (omega arith)
-          ]
+        ]
 
     -- the endless history of these worlds and events
     pub history : History V

@@ -78,22 +78,27 @@ module _ {V : Type 0} (H : History V) (ended : List (Finished V)) (C : Certified
   -- step t is the effect of a yes at a, or the store keeps a
   abbrev Turn : ℕ → ℕ → Type 0
   Turn t a = ((o : Finished V) × (new : V) × Sets ended o a new × (o .effect ≡ t) × (S (suc t) .value a ≡ new))
-             ⊎ (((o : Finished V) (new : V) → Sets ended o a new → o .effect ≡ t → ⊥) × (S (suc t) .value a ≡ S t .value a))
+      ⊎ (((o : Finished V) (new : V) → Sets ended o a new → o .effect ≡ t → ⊥) × (S (suc t) .value a ≡ S t .value a))
 
   turn : (t a : ℕ) → Turn t a
   turn t a = by-log (log t) refl
     where
       by-change : (o : Finished V) → (o ∈ ended) × (o .effect ≡ t) → (y : Change V) → change (o .request) (o .answer) ≡ y → S (suc t) .value a ≡ change-values y (S t .value) a → Turn t a
       by-change o k nothing f m =
-          inr (λ o′ v d h. (let x : o′ ≡ o = by-its-effect H ended C o′ o (d .0) (k .0) (h ∙ sym (k .1)) in
-                            let g = ap (λ (z : Finished V). change (z .request) (z .answer)) x in clash (cc (d .1))), m)
+          inr (
+            λ o′ v d h. (let x : o′ ≡ o = by-its-effect H ended C o′ o (d .0) (k .0) (h ∙ sym (k .1)) in
+                let g = ap (λ (z : Finished V). change (z .request) (z .answer)) x in clash (cc (d .1))),
+            m,
+          )
       by-change o k (set b new) f m =
-          elim (ℕ-discrete a b)
-            [ yes i ↦ inl (o, new, (k .0, f ∙ (cc)), k .1, m ∙ ap (changed (S t .value) b new) i ∙ changed-here (S t .value) b new)
-            | no i ↦ inr (λ o′ v d h. (let x : o′ ≡ o = by-its-effect H ended C o′ o (d .0) (k .0) (h ∙ sym (k .1)) in
-                                       let g = ap (λ (z : Finished V). change (z .request) (z .answer)) x in let j : a ≡ b = cc (d .1) in absurd (i j))
-                         , m ∙ changed-else (S t .value) b new a i)
-            ]
+          elim (ℕ-discrete a b) [
+            | yes i ↦ inl (o, new, (k .0, f ∙ (cc)), k .1, m ∙ ap (changed (S t .value) b new) i ∙ changed-here (S t .value) b new)
+            | no i ↦ inr (
+              λ o′ v d h. (let x : o′ ≡ o = by-its-effect H ended C o′ o (d .0) (k .0) (h ∙ sym (k .1)) in
+                  let g = ap (λ (z : Finished V). change (z .request) (z .answer)) x in let j : a ≡ b = cc (d .1) in absurd (i j)),
+              m ∙ changed-else (S t .value) b new a i,
+            )
+          ]
 
       by-log : (x : Option (Finished V)) → log t ≡ x → Turn t a
       by-log none e = inr (λ o v d. unlogged t e o (d .0), ap (λ x. feed x (S t) .value a) e)
@@ -101,7 +106,7 @@ module _ {V : Type 0} (H : History V) (ended : List (Finished V)) (C : Certified
 
   -- none is open after the last step of a yes that was
   none-after : (t a : ℕ) (o : Finished V) (v : V) → Sets ended o a v → o .last ≡ t
-               → (o′ : Finished V) (v′ : V) → Sets ended o′ a v′ → o′ .effect < suc t → suc t ≤ o′ .last → ⊥
+      → (o′ : Finished V) (v′ : V) → Sets ended o′ a v′ → o′ .effect < suc t → suc t ≤ o′ .last → ⊥
   none-after t a o v d k o′ v′ d′ h′ k′ =
       let h = in-time H ended C o (d .0) in
       let l = ap (λ (z : Finished V). z .last) (meet H ended C t o o′ a v v′ d d′ (omega arith) (omega arith) (omega arith) (omega arith)) in
@@ -116,12 +121,20 @@ module _ {V : Type 0} (H : History V) (ended : List (Finished V)) (C : Certified
       -- no yes at a takes effect here
       calm : ((o : Finished V) (v : V) → Sets ended o a v → o .effect ≡ t → ⊥) → S (suc t) .value a ≡ S t .value a → Good t a → Good (suc t) a
       calm no-set m (inl p) =
-          elim (ℕ-discrete (p .o .last) t)
-            [ yes k ↦ inr (record { stands = rw (m ∙ p .holds) (after-commit (p .o) (p .new) (p .sets) k)
-                                  ; none-open = none-after t a (p .o) (p .new) (p .sets) k })
-            | no k ↦ inl (record { o = p .o; new = p .new; sets = p .sets
-                                 ; begun = (let h = p .begun in omega arith); open-yet = (let h = p .open-yet in omega arith); holds = m ∙ p .holds })
-            ]
+          elim (ℕ-discrete (p .o .last) t) [
+            | yes k ↦ inr (record {
+              stands = rw (m ∙ p .holds) (after-commit (p .o) (p .new) (p .sets) k);
+              none-open = none-after t a (p .o) (p .new) (p .sets) k;
+            })
+            | no k ↦ inl (record {
+              o = p .o;
+              new = p .new;
+              sets = p .sets;
+              begun = (let h = p .begun in omega arith);
+              open-yet = (let h = p .open-yet in omega arith);
+              holds = m ∙ p .holds;
+            })
+          ]
       calm no-set m (inr q) = inr (record { stands = rw m (still (stands-on H t a (S t .value a) (q .stands))); none-open = none-yet })
         where
           none-yet : (o : Finished V) (v : V) → Sets ended o a v → o .effect < suc t → suc t ≤ o .last → ⊥
@@ -134,10 +147,10 @@ module _ {V : Type 0} (H : History V) (ended : List (Finished V)) (C : Certified
           by-owner p u c (inr w) = absurd (
               let h = in-time H ended C (w .done) (w .is-listed) in
               let k = w .ends-there in
-              elim (ℕ-discrete (w .done .effect) t)
-                [ yes i ↦ no-set (w .done) u (w .is-listed, w .sets) i
+              elim (ℕ-discrete (w .done .effect) t) [
+                | yes i ↦ no-set (w .done) u (w .is-listed, w .sets) i
                 | no i ↦ q .none-open (w .done) u (w .is-listed, w .sets) (omega arith) (omega arith)
-                ])
+              ])
 
           still : Stands (W (suc t)) a (S t .value a) ⊎ ((p : ℕ) × (u : V) × (H .event t ≡ commit p a u)) → Stands (W (suc t)) a (S t .value a)
           still (inl k) = k
@@ -147,11 +160,13 @@ module _ {V : Type 0} (H : History V) (ended : List (Finished V)) (C : Certified
       by-turn (inl d) =
           let h = in-time H ended C (d .0) (d .2 .0) in
           let f = d .3 in
-          elim (ℕ-discrete (d .0 .last) t)
-            [ yes k ↦ inr (record { stands = rw (d .4) (after-commit (d .0) (d .1) (d .2) k)
-                                  ; none-open = none-after t a (d .0) (d .1) (d .2) k })
+          elim (ℕ-discrete (d .0 .last) t) [
+            | yes k ↦ inr (record {
+              stands = rw (d .4) (after-commit (d .0) (d .1) (d .2) k);
+              none-open = none-after t a (d .0) (d .1) (d .2) k;
+            })
             | no k ↦ inl (record { o = d .0; new = d .1; sets = d .2; begun = omega arith; open-yet = omega arith; holds = d .4 })
-            ]
+          ]
       by-turn (inr d) = calm (d .0) (d .1) g
 
   good : (t a : ℕ) → Good t a

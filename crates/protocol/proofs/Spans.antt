@@ -34,7 +34,7 @@ pub record Spans {V : Type 0} (H : History V) (o : Finished V) (a : ℕ) (new : 
   pub same-tag : H .at (o .effect) .tag (o .process) ≡ H .at (o .last) .tag (o .process)
 
 spans-of : {V : Type 0} (H : History V) (ended : List (Finished V)) (o : Finished V) (a : ℕ) (new : V) (r : Request V) (s : Answer V)
-           → Shown H ended o r s → change r s ≡ set a new → Spans H o a new
+    → Shown H ended o r s → change r s ≡ set a new → Spans H o a new
 spans-of H ended o a new (read b) (values l) c e = clash (cc)
 spans-of H ended o a new (read b) (said y) c e = absurd c
 spans-of H ended o a new (ll b) (values l) c e = clash (cc)
@@ -76,7 +76,7 @@ module _ {V : Type 0} (H : History V) (ended : List (Finished V)) (C : Certified
 
   -- two yeses that commit with one tag are one
   pub one-yes : (o o′ : Finished V) (a : ℕ) (v v′ : V) → Sets ended o a v → Sets ended o′ a v′
-                → o .process ≡ o′ .process → W (o .last) .tag (o .process) ≡ W (o′ .last) .tag (o′ .process) → o ≡ o′
+      → o .process ≡ o′ .process → W (o .last) .tag (o .process) ≡ W (o′ .last) .tag (o′ .process) → o ≡ o′
   one-yes o o′ a v v′ d d′ i j =
       let c′ : H .event (o′ .last) ≡ commit (o .process) a v′ = spans o′ a v′ d′ .commits ∙ ap (λ p. commit p a v′) (sym i) in
       let k : W (o .last) .tag (o .process) ≡ W (o′ .last) .tag (o .process) = j ∙ ap (λ p. W (o′ .last) .tag p) (sym i) in
@@ -84,12 +84,12 @@ module _ {V : Type 0} (H : History V) (ended : List (Finished V)) (C : Certified
 
   -- so are two yeses at one location whose spans meet
   pub meet : (t : ℕ) (o o′ : Finished V) (a : ℕ) (v v′ : V) → Sets ended o a v → Sets ended o′ a v′
-             → o .effect ≤ t → t ≤ o .last → o′ .effect ≤ t → t ≤ o′ .last → o ≡ o′
+      → o .effect ≤ t → t ≤ o .last → o′ .effect ≤ t → t ≤ o′ .last → o ≡ o′
   meet t o o′ a v v′ d d′ h k h′ k′ =
       let x = armed-at o a v d t h k .in-val in
       let y = armed-at o′ a v′ d′ t h′ k′ .in-val in
       one-yes o o′ a v v′ d d′ (one-process (W t .val a) (o .process) (o′ .process) (W (o .last) .tag (o .process)) (W (o′ .last) .tag (o′ .process)) x y)
-        (one-tag (W t .val a) (o .process) (o′ .process) (W (o .last) .tag (o .process)) (W (o′ .last) .tag (o′ .process)) x y)
+      (one-tag (W t .val a) (o .process) (o′ .process) (W (o .last) .tag (o .process)) (W (o′ .last) .tag (o′ .process)) x y)
 
   -- of two operations with one effect neither ends before the other
   not-before : (o o′ : Finished V) → o ∈ ended → o′ ∈ ended → o .effect ≡ o′ .effect → o .last < o′ .last → ⊥
@@ -99,9 +99,10 @@ module _ {V : Type 0} (H : History V) (ended : List (Finished V)) (C : Certified
 
   one-last : (o o′ : Finished V) → o ∈ ended → o′ ∈ ended → o .effect ≡ o′ .effect → o .last ≡ o′ .last
   one-last o o′ m m′ e =
-      elim (decLe (o .last) (o′ .last))
-        [ yes i ↦ elim (decLe (o′ .last) (o .last)) [ yes j ↦ omega arith | no j ↦ absurd (not-before o o′ m m′ e (omega arith)) ]
-        | no i ↦ absurd (not-before o′ o m′ m (sym e) (omega arith)) ]
+      elim (decLe (o .last) (o′ .last)) [
+        | yes i ↦ elim (decLe (o′ .last) (o .last)) [ yes j ↦ omega arith | no j ↦ absurd (not-before o o′ m m′ e (omega arith)) ]
+        | no i ↦ absurd (not-before o′ o m′ m (sym e) (omega arith))
+      ]
 
   -- an effect names its operation
   pub by-its-effect : (o o′ : Finished V) → o ∈ ended → o′ ∈ ended → o .effect ≡ o′ .effect → o ≡ o′

@@ -85,7 +85,7 @@ module _ {V : Type 0} (H : History V) where
   calm-step t a v h (inr d) = go (val-step H t a) (d .0) (d .1) (d .2) (d .3) (d .4)
     where
       stays : (q τ : ℕ) → W (suc t) .val a ≡ id-cell q τ → W t .stage q ≡ held a → W t .saved q ≡ Value v
-              → ProcessStep (H .event t) (W t) (W (suc t)) q → Calm (W (suc t)) a v
+          → ProcessStep (H .event t) (W t) (W (suc t)) q → Calm (W (suc t)) a v
       stays q τ m s r (p-same x y z) = inr (q, τ, m, y ∙ s, z ∙ r)
       stays q τ m s r (p-begin e (inl i) x y) = clash (cc)
       stays q τ m s r (p-begin e (inr i) x y) = clash (cc)
@@ -108,7 +108,7 @@ module _ {V : Type 0} (H : History V) where
   pub calm-since : (r a : ℕ) (v : V) (t : ℕ) → r ≤ t → W r .val a ≡ Value v → ((u p : ℕ) → r ≤ u → u < t → H .event u ≡ note p a → ⊥) → Calm (W t) a v
   calm-since r a v t h m q =
       lasts (λ x. x ≤ t → Calm (W x) a v) r
-        (λ x i ih j. calm-step x a v (λ p e. q x p i j e) (ih (omega arith))) (λ i. inl m) t h (omega arith)
+      (λ x i ih j. calm-step x a v (λ p e. q x p i j e) (ih (omega arith))) (λ i. inl m) t h (omega arith)
 
   -- no commit comes at a calm location
   pub calm-no-commit : (t a : ℕ) (v : V) (p : ℕ) (u : V) → Calm (W t) a v → H .event t ≡ commit p a u → ⊥

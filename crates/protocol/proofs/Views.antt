@@ -16,9 +16,9 @@ use Rattle.protocol.proofs.Changes.{clash, changed-here, changed-else, here-or
 pub data ValStep {V : Type 0} (e : Event V) (w w′ : World V) (a : ℕ) : Type 0 where
   v-same : w′ .val a ≡ w .val a → ValStep e w w′ a
   v-mark : (p : ℕ) (v : V) → e ≡ mark p a v → w .stage p ≡ fresh → w .val a ≡ Value v → w .saved p ≡ Value v
-           → w′ .val a ≡ own-id w p → w′ .stage p ≡ held a → w′ .tag p ≡ w .tag p → w′ .saved p ≡ w .saved p → ValStep e w w′ a
+      → w′ .val a ≡ own-id w p → w′ .stage p ≡ held a → w′ .tag p ≡ w .tag p → w′ .saved p ≡ w .saved p → ValStep e w w′ a
   v-commit : (p : ℕ) (v : V) → e ≡ commit p a v → w .stage p ≡ armed a → w .val a ≡ own-id w p → w′ .val a ≡ Value v
-             → w′ .stage p ≡ idle → w′ .tag p ≡ w .tag p → ValStep e w w′ a
+      → w′ .stage p ≡ idle → w′ .tag p ≡ w .tag p → ValStep e w w′ a
   v-reset : (r q τ : ℕ) (v : V) → e ≡ reset r a v → w .val a ≡ id-cell q τ → w .saved q ≡ Value v → w′ .val a ≡ Value v → ValStep e w w′ a
 
 -- tid of a: it stays, or is written
@@ -41,19 +41,22 @@ module _ {V : Type 0} (w : World V) where
   val-view (begin p) h a = v-same refl
   val-view (save p v) h a = v-same refl
   val-view (mark p b v) h a =
-      elim (here-or-else (w .val) b (own-id w p) a)
-        [ inl d ↦ (let e = d .0 in let k : mark p b v ≡ mark p a v = cc in v-mark p v k (h .0) (ap (w .val) e ∙ h .1) (h .2) (d .1) (changed-here (w .stage) p (held b) ∙ ap held (sym e)) refl refl)
-        | inr d ↦ v-same d ]
+      elim (here-or-else (w .val) b (own-id w p) a) [
+        | inl d ↦ (let e = d .0 in let k : mark p b v ≡ mark p a v = cc in v-mark p v k (h .0) (ap (w .val) e ∙ h .1) (h .2) (d .1) (changed-here (w .stage) p (held b) ∙ ap held (sym e)) refl refl)
+        | inr d ↦ v-same d
+      ]
   val-view (note p b) h a = v-same refl
   val-view (commit p b v) h a =
-      elim (here-or-else (w .val) b (Value v) a)
-        [ inl d ↦ (let e = d .0 in let k : commit p b v ≡ commit p a v = cc in v-commit p v k (h .0 ∙ ap armed (sym e)) (ap (w .val) e ∙ h .1) (d .1) (changed-here (w .stage) p idle) refl)
-        | inr d ↦ v-same d ]
+      elim (here-or-else (w .val) b (Value v) a) [
+        | inl d ↦ (let e = d .0 in let k : commit p b v ≡ commit p a v = cc in v-commit p v k (h .0 ∙ ap armed (sym e)) (ap (w .val) e ∙ h .1) (d .1) (changed-here (w .stage) p idle) refl)
+        | inr d ↦ v-same d
+      ]
   val-view (fail p b) h a = v-same refl
   val-view (reset r b v) h a =
-      elim (here-or-else (w .val) b (Value v) a)
-        [ inl d ↦ (let e = d .0 in let k : reset r b v ≡ reset r a v = cc in v-reset r (h .0) (h .1) v k (ap (w .val) e ∙ h .2) (h .3) (d .1))
-        | inr d ↦ v-same d ]
+      elim (here-or-else (w .val) b (Value v) a) [
+        | inl d ↦ (let e = d .0 in let k : reset r b v ≡ reset r a v = cc in v-reset r (h .0) (h .1) v k (ap (w .val) e ∙ h .2) (h .3) (d .1))
+        | inr d ↦ v-same d
+      ]
 
   tid-view : (e : Event V) → Possible e w → (a : ℕ) → TidStep e w (after e w) a
   tid-view (look p) h a = t-same refl
@@ -61,9 +64,10 @@ module _ {V : Type 0} (w : World V) where
   tid-view (save p v) h a = t-same refl
   tid-view (mark p b v) h a = t-same refl
   tid-view (note p b) h a =
-      elim (here-or-else (w .tid) b (own-id w p) a)
-        [ inl d ↦ (let e = d .0 in let k : note p b ≡ note p a = cc in t-note p k (h ∙ ap held (sym e)) (d .1) (changed-here (w .stage) p (armed b) ∙ ap armed (sym e)) refl)
-        | inr d ↦ t-same d ]
+      elim (here-or-else (w .tid) b (own-id w p) a) [
+        | inl d ↦ (let e = d .0 in let k : note p b ≡ note p a = cc in t-note p k (h ∙ ap held (sym e)) (d .1) (changed-here (w .stage) p (armed b) ∙ ap armed (sym e)) refl)
+        | inr d ↦ t-same d
+      ]
   tid-view (commit p b v) h a = t-same refl
   tid-view (fail p b) h a = t-same refl
   tid-view (reset r b v) h a = t-same refl
@@ -76,28 +80,28 @@ module _ {V : Type 0} (w : World V) where
   process-view (look p) h q = p-same refl refl refl
   process-view (begin p) h q =
       mover (ProcessStep (begin p) w (after (begin p) w)) p q
-        (p-begin refl h (changed-here (w .tag) p (suc (w .tag p))) (changed-here (w .stage) p fresh))
-        (λ k. p-same (changed-else (w .tag) p (suc (w .tag p)) q k) (changed-else (w .stage) p fresh q k) refl)
+      (p-begin refl h (changed-here (w .tag) p (suc (w .tag p))) (changed-here (w .stage) p fresh))
+      (λ k. p-same (changed-else (w .tag) p (suc (w .tag p)) q k) (changed-else (w .stage) p fresh q k) refl)
   process-view (save p v) h q =
       mover (ProcessStep (save p v) w (after (save p v) w)) p q
-        (p-save v refl h refl h)
-        (λ k. p-same refl refl (changed-else (w .saved) p (Value v) q k))
+      (p-save v refl h refl h)
+      (λ k. p-same refl refl (changed-else (w .saved) p (Value v) q k))
   process-view (mark p b v) h q =
       mover (ProcessStep (mark p b v) w (after (mark p b v) w)) p q
-        (p-mark b v refl (h .0) refl (changed-here (w .stage) p (held b)) refl)
-        (λ k. p-same refl (changed-else (w .stage) p (held b) q k) refl)
+      (p-mark b v refl (h .0) refl (changed-here (w .stage) p (held b)) refl)
+      (λ k. p-same refl (changed-else (w .stage) p (held b) q k) refl)
   process-view (note p b) h q =
       mover (ProcessStep (note p b) w (after (note p b) w)) p q
-        (p-note b refl h refl (changed-here (w .stage) p (armed b)) refl)
-        (λ k. p-same refl (changed-else (w .stage) p (armed b) q k) refl)
+      (p-note b refl h refl (changed-here (w .stage) p (armed b)) refl)
+      (λ k. p-same refl (changed-else (w .stage) p (armed b) q k) refl)
   process-view (commit p b v) h q =
       mover (ProcessStep (commit p b v) w (after (commit p b v) w)) p q
-        (p-done b (h .0) refl (changed-here (w .stage) p idle) (λ k. let u = changed-here (w .val) b (Value v) in clash (cc)) refl)
-        (λ k. p-same refl (changed-else (w .stage) p idle q k) refl)
+      (p-done b (h .0) refl (changed-here (w .stage) p idle) (λ k. let u = changed-here (w .val) b (Value v) in clash (cc)) refl)
+      (λ k. p-same refl (changed-else (w .stage) p idle q k) refl)
   process-view (fail p b) h q =
       mover (ProcessStep (fail p b) w (after (fail p b) w)) p q
-        (p-done b (h .0) refl (changed-here (w .stage) p idle) (h .1) refl)
-        (λ k. p-same refl (changed-else (w .stage) p idle q k) refl)
+      (p-done b (h .0) refl (changed-here (w .stage) p idle) (h .1) refl)
+      (λ k. p-same refl (changed-else (w .stage) p idle q k) refl)
   process-view (reset r b v) h q = p-same refl refl refl
 
 module _ {V : Type 0} (H : History V) where
@@ -121,24 +125,26 @@ module _ {V : Type 0} (H : History V) where
   mark-can t p a v e = can t (mark p a v) e
 
   pub mark-does : (t p a : ℕ) (v : V) → H .event t ≡ mark p a v
-                  → (H .at (suc t) .val a ≡ own-id (H .at t) p) × (H .at (suc t) .stage p ≡ held a) × (H .at (suc t) .tag p ≡ H .at t .tag p) × (H .at (suc t) .saved p ≡ H .at t .saved p)
+      → (H .at (suc t) .val a ≡ own-id (H .at t) p) × (H .at (suc t) .stage p ≡ held a) × (H .at (suc t) .tag p ≡ H .at t .tag p) × (H .at (suc t) .saved p ≡ H .at t .saved p)
   mark-does t p a v e =
-      let n = next t (mark p a v) e in
-      ( ap (λ w. w .val a) n ∙ changed-here (H .at t .val) a (own-id (H .at t) p)
-      , ap (λ w. w .stage p) n ∙ changed-here (H .at t .stage) p (held a)
-      , ap (λ w. w .tag p) n
-      , ap (λ w. w .saved p) n )
+      let n = next t (mark p a v) e in (
+        ap (λ w. w .val a) n ∙ changed-here (H .at t .val) a (own-id (H .at t) p),
+        ap (λ w. w .stage p) n ∙ changed-here (H .at t .stage) p (held a),
+        ap (λ w. w .tag p) n,
+        ap (λ w. w .saved p) n,
+      )
 
   pub commit-can : (t p a : ℕ) (v : V) → H .event t ≡ commit p a v → (H .at t .stage p ≡ armed a) × (H .at t .val a ≡ own-id (H .at t) p)
   commit-can t p a v e = can t (commit p a v) e
 
   pub commit-does : (t p a : ℕ) (v : V) → H .event t ≡ commit p a v
-                  → (H .at (suc t) .val a ≡ Value v) × (H .at (suc t) .stage p ≡ idle) × (H .at (suc t) .tag p ≡ H .at t .tag p)
+      → (H .at (suc t) .val a ≡ Value v) × (H .at (suc t) .stage p ≡ idle) × (H .at (suc t) .tag p ≡ H .at t .tag p)
   commit-does t p a v e =
-      let n = next t (commit p a v) e in
-      ( ap (λ w. w .val a) n ∙ changed-here (H .at t .val) a (Value v)
-      , ap (λ w. w .stage p) n ∙ changed-here (H .at t .stage) p idle
-      , ap (λ w. w .tag p) n )
+      let n = next t (commit p a v) e in (
+        ap (λ w. w .val a) n ∙ changed-here (H .at t .val) a (Value v),
+        ap (λ w. w .stage p) n ∙ changed-here (H .at t .stage) p idle,
+        ap (λ w. w .tag p) n,
+      )
 
   pub note-can : (t p a : ℕ) → H .event t ≡ note p a → H .at t .stage p ≡ held a
   note-can t p a e = can t (note p a) e

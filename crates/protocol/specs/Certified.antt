@@ -29,10 +29,10 @@ pub record Certified {V : Type 0} (history : History V) (ended : List (Finished 
   pub each : (done : Finished V) → done ∈ ended → Certificate history ended done
   pub apart : Apart ended
   pub owned : (step process location : ℕ) (new : V) → history .event step ≡ commit process location new
-              → (history .at step .saved process ≡ Value new) ⊎ Owner ended step process location new
+      → (history .at step .saved process ≡ Value new) ⊎ Owner ended step process location new
 
 -- From the step on the history is at rest: no commit comes, and the listed operations have ended before.
 pub record At-rest {V : Type 0} (history : History V) (ended : List (Finished V)) (from : ℕ) : Type 0 where
   pub no-commit : (step process location : ℕ) (new : V) → from ≤ step
-                  → history .event step ≡ commit process location new → ⊥
+      → history .event step ≡ commit process location new → ⊥
   pub all-ended : (done : Finished V) → done ∈ ended → done .last < from

@@ -45,36 +45,64 @@ Possible (look process) world = Unit {0}
 Possible (begin process) world = (world .stage process ≡ idle) ⊎ (world .stage process ≡ fresh)
 Possible (save process value) world = world .stage process ≡ fresh
 Possible (mark process location value) world =
-  (world .stage process ≡ fresh) × (world .val location ≡ Value value) × (world .saved process ≡ Value value)
+    (world .stage process ≡ fresh) × (world .val location ≡ Value value) × (world .saved process ≡ Value value)
 Possible (note process location) world = world .stage process ≡ held location
 Possible (commit process location value) world =
-  (world .stage process ≡ armed location) × (world .val location ≡ own-id world process)
+    (world .stage process ≡ armed location) × (world .val location ≡ own-id world process)
 Possible (fail process location) world =
-  (world .stage process ≡ armed location) × (world .val location ≡ own-id world process → ⊥)
+    (world .stage process ≡ armed location) × (world .val location ≡ own-id world process → ⊥)
 Possible (reset process location value) world =
-  (owner : ℕ) × (tag : ℕ) × (world .val location ≡ id-cell owner tag) × (world .saved owner ≡ Value value)
+    (owner : ℕ) × (tag : ℕ) × (world .val location ≡ id-cell owner tag) × (world .saved owner ≡ Value value)
 
 -- What an event does to the world.
 abbrev pub after : {V : Type 0} → Event V → World V → World V
 after (look process) world = world
-after (begin process) world = record
-  { val = world .val; tid = world .tid; saved = world .saved
-  ; tag = changed (world .tag) process (suc (world .tag process)); stage = changed (world .stage) process fresh }
-after (save process value) world = record
-  { val = world .val; tid = world .tid; saved = changed (world .saved) process (Value value)
-  ; tag = world .tag; stage = world .stage }
-after (mark process location value) world = record
-  { val = changed (world .val) location (own-id world process); tid = world .tid; saved = world .saved
-  ; tag = world .tag; stage = changed (world .stage) process (held location) }
-after (note process location) world = record
-  { val = world .val; tid = changed (world .tid) location (own-id world process); saved = world .saved
-  ; tag = world .tag; stage = changed (world .stage) process (armed location) }
-after (commit process location value) world = record
-  { val = changed (world .val) location (Value value); tid = world .tid; saved = world .saved
-  ; tag = world .tag; stage = changed (world .stage) process idle }
-after (fail process location) world = record
-  { val = world .val; tid = world .tid; saved = world .saved
-  ; tag = world .tag; stage = changed (world .stage) process idle }
-after (reset process location value) world = record
-  { val = changed (world .val) location (Value value); tid = world .tid; saved = world .saved
-  ; tag = world .tag; stage = world .stage }
+after (begin process) world = record {
+  val = world .val;
+  tid = world .tid;
+  saved = world .saved;
+  tag = changed (world .tag) process (suc (world .tag process));
+  stage = changed (world .stage) process fresh;
+}
+after (save process value) world = record {
+  val = world .val;
+  tid = world .tid;
+  saved = changed (world .saved) process (Value value);
+  tag = world .tag;
+  stage = world .stage;
+}
+after (mark process location value) world = record {
+  val = changed (world .val) location (own-id world process);
+  tid = world .tid;
+  saved = world .saved;
+  tag = world .tag;
+  stage = changed (world .stage) process (held location);
+}
+after (note process location) world = record {
+  val = world .val;
+  tid = changed (world .tid) location (own-id world process);
+  saved = world .saved;
+  tag = world .tag;
+  stage = changed (world .stage) process (armed location);
+}
+after (commit process location value) world = record {
+  val = changed (world .val) location (Value value);
+  tid = world .tid;
+  saved = world .saved;
+  tag = world .tag;
+  stage = changed (world .stage) process idle;
+}
+after (fail process location) world = record {
+  val = world .val;
+  tid = world .tid;
+  saved = world .saved;
+  tag = world .tag;
+  stage = changed (world .stage) process idle;
+}
+after (reset process location value) world = record {
+  val = changed (world .val) location (Value value);
+  tid = world .tid;
+  saved = world .saved;
+  tag = world .tag;
+  stage = world .stage;
+}

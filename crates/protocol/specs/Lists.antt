@@ -8,7 +8,6 @@ use lib.Dec.{leb}
 use Rattle.protocol.specs.Operations.{Finished}
 
 infix 4 _∈_
-
 -- The operation is in the list.
 abbrev pub _∈_ : {V : Type 0} → Finished V → List (Finished V) → Type 0
 done ∈ [] = ⊥
@@ -18,13 +17,13 @@ done ∈ (one ∷ more) = (done ≡ one) ⊎ (done ∈ more)
 abbrev pub Apart : {V : Type 0} → List (Finished V) → Type 0
 Apart [] = Unit {0}
 Apart {V = V} (one ∷ more) =
-  ((other : Finished V) → other ∈ more → one .last ≡ other .last → ⊥) × Apart more
+    ((other : Finished V) → other ∈ more → one .last ≡ other .last → ⊥) × Apart more
 
 -- The operation put before the first whose effect step is not lower.
 abbrev pub insert : {V : Type 0} → Finished V → List (Finished V) → List (Finished V)
 insert done [] = done ∷ []
 insert done (one ∷ more) =
-  cond (leb (done .effect) (one .effect)) (done ∷ one ∷ more) (one ∷ insert done more)
+    cond (leb (done .effect) (one .effect)) (done ∷ one ∷ more) (one ∷ insert done more)
 
 -- The operations, lowest effect step first.
 abbrev pub by-effect : {V : Type 0} → List (Finished V) → List (Finished V)
@@ -35,4 +34,4 @@ by-effect (one ∷ more) = insert one (by-effect more)
 abbrev pub Ascending : {V : Type 0} → List (Finished V) → Type 0
 Ascending [] = Unit {0}
 Ascending {V = V} (one ∷ more) =
-  ((other : Finished V) → other ∈ more → one .effect < other .effect) × Ascending more
+    ((other : Finished V) → other ∈ more → one .effect < other .effect) × Ascending more

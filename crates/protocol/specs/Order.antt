@@ -19,7 +19,7 @@ use Rattle.protocol.specs.Certified.{Certified, At-rest}
 
 -- Why an SC said no: after the mark that its LL put, and before its own step, a step of some process reset that mark.
 pub record Mark-was-reset {V : Type 0} (history : History V) (ended : List (Finished V)) (done : Finished V)
-                          (location : ℕ) : Type 0 where
+    (location : ℕ) : Type 0 where
   pub its-ll : Its-ll history ended done location
   pub step : ℕ
   pub by-process : ℕ
@@ -40,10 +40,10 @@ pub record Ordered {V : Type 0} (history : History V) (ended : List (Finished V)
   pub replays : Replays (opened-store (history .initial)) (by-effect ended) store
   pub stands : (location : ℕ) → Stands (history .at from) location (store .value location)
   pub failures : (done : Finished V) (location : ℕ) (new : V) → done ∈ ended
-                 → done .request ≡ sc location new → done .answer ≡ said false
-                 → Mark-was-reset history ended done location
+      → done .request ≡ sc location new → done .answer ≡ said false
+      → Mark-was-reset history ended done location
 
 -- So it is in every history that has come to rest.
 abbrev pub Order-law : Type 0 → Type 0
 Order-law V = (history : History V) (ended : List (Finished V)) (from : ℕ)
-  → Certified history ended → At-rest history ended from → Ordered history ended from
+    → Certified history ended → At-rest history ended from → Ordered history ended from

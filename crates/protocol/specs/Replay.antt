@@ -56,24 +56,25 @@ break-links (set location new) link = break-link location link
 
 -- The store after a finished operation. It looks at process, request and answer alone.
 abbrev pub store-after : {V : Type 0} → Finished V → Store V → Store V
-store-after done store = record
-  { value = change-values (change (done .request) (done .answer)) (store .value)
-  ; link = λ process.
-      break-links (change (done .request) (done .answer)) (relink (done .process) (done .request) (store .link) process) }
+store-after done store = record {
+  value = change-values (change (done .request) (done .answer)) (store .value);
+  link = λ process.
+      break-links (change (done .request) (done .answer)) (relink (done .process) (done .request) (store .link) process);
+}
 
 -- Fed the operations in turn, the store allows each, and ends as the second store.
 pub data Replays {V : Type 0} : Store V → List (Finished V) → Store V → Type 0 where
   at-end : (store : Store V) → Replays store [] store
   then-on : (store : Store V) (done : Finished V) (more : List (Finished V)) (end : Store V)
-            → Allows store (done .process) (done .request) (done .answer)
-            → Replays (store-after done store) more end
-            → Replays store (done ∷ more) end
+      → Allows store (done .process) (done .request) (done .answer)
+      → Replays (store-after done store) more end
+      → Replays store (done ∷ more) end
 
 -- The same by recursion: each operation is allowed in its turn.
 abbrev pub Lawful : {V : Type 0} → Store V → List (Finished V) → Type 0
 Lawful store [] = Unit {0}
 Lawful store (done ∷ more) =
-  Allows store (done .process) (done .request) (done .answer) × Lawful (store-after done store) more
+    Allows store (done .process) (done .request) (done .answer) × Lawful (store-after done store) more
 
 -- And the store that they leave.
 abbrev pub store-after-all : {V : Type 0} → Store V → List (Finished V) → Store V

@@ -27,17 +27,17 @@ All-seen history step [] [] = Unit {0}
 All-seen history step [] (value ∷ more) = ⊥
 All-seen history step (location ∷ others) [] = ⊥
 All-seen history step (location ∷ others) (value ∷ more) =
-  Seen history step location value × All-seen history step others more
+    Seen history step location value × All-seen history step others more
 
 -- Each location was seen with its expected value.
 abbrev pub Seen-expected : {V : Type 0} → History V → (step : ℕ) → List (Expected V) → Type 0
 Seen-expected history step [] = Unit {0}
 Seen-expected history step (one ∷ more) =
-  Seen history step (one .location) (one .value) × Seen-expected history step more
+    Seen history step (one .location) (one .value) × Seen-expected history step more
 
 -- Some location was seen with another value than its expected one.
 abbrev pub Seen-differing : {V : Type 0} → History V → (step : ℕ) → List (Expected V) → Type 0
 Seen-differing history step [] = ⊥
 Seen-differing {V = V} history step (one ∷ more) =
-  ((value : V) × Seen history step (one .location) value × (value ≡ one .value → ⊥))
-  ⊎ Seen-differing history step more
+    ((value : V) × Seen history step (one .location) value × (value ≡ one .value → ⊥))
+    ⊎ Seen-differing history step more

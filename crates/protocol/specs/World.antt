@@ -41,6 +41,6 @@ changed row place new other = cond (eqb other place) new (row other)
 -- is there.
 abbrev pub Stands : {V : Type 0} → World V → (location : ℕ) → V → Type 0
 Stands world location value =
-  (world .val location ≡ Value value)
-  ⊎ ((process : ℕ) × (tag : ℕ) × (world .val location ≡ id-cell process tag)
-                   × (world .saved process ≡ Value value))
+    (world .val location ≡ Value value)
+    ⊎ ((process : ℕ) × (tag : ℕ) × (world .val location ≡ id-cell process tag)
+    × (world .saved process ≡ Value value))

@@ -16,13 +16,13 @@ use Rattle.sheet.specs.RoundTrip.{GivesBack}
 use Rattle.sheet.specs.Writing.{write-after}
 
 pub comes-back : {V : Type 0} (code : V → ℕ) (number : ℕ) (p : Parts V) (bytes out : List ℕ)
-  → GivesBack code number p bytes
-  → length out ≡ length bytes → write-after p code number out ≡ bytes
+    → GivesBack code number p bytes
+    → length out ≡ length bytes → write-after p code number out ≡ bytes
 comes-back code number p bytes out back long =
-  let room : length bytes ≤ length out = omega arith in
-  let wrote = ap (λ (r : Result ℕ SheetFault). isOk r) (back .1 (length out) room) in
-  let past : length out ≤ length bytes = omega arith in
-  ap (λ (b : Bool). cond b (overwritten (sheet-bytes code number p) out) out) wrote
-  ∙ ap (λ (bs : List ℕ). overwritten bs out) (back .0)
-  ∙ ap (λ (rest : List ℕ). bytes ++ rest) (drop-all (length bytes) out past)
-  ∙ append-nil bytes
+    let room : length bytes ≤ length out = omega arith in
+    let wrote = ap (λ (r : Result ℕ SheetFault). isOk r) (back .1 (length out) room) in
+    let past : length out ≤ length bytes = omega arith in
+    ap (λ (b : Bool). cond b (overwritten (sheet-bytes code number p) out) out) wrote
+    ∙ ap (λ (bs : List ℕ). overwritten bs out) (back .0)
+    ∙ ap (λ (rest : List ℕ). bytes ++ rest) (drop-all (length bytes) out past)
+    ∙ append-nil bytes

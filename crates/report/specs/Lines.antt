@@ -21,7 +21,7 @@ size-line long = codes "run sheet, " ++ (decimal long ++ codes " bytes\n")
 -- what the header says
 unfoldable pub header-line : ℕ → ℕ → ℕ → ℕ → List ℕ
 header-line kind locations processes items = codes "version 1, kind " ++ (decimal kind ++ (codes ", " ++ (decimal locations
-  ++ (codes " locations, " ++ (decimal processes ++ (codes " processes, " ++ (decimal items ++ codes " script items\n")))))))
+    ++ (codes " locations, " ++ (decimal processes ++ (codes " processes, " ++ (decimal items ++ codes " script items\n")))))))
 
 unfoldable pub values-heading : List ℕ
 values-heading = codes "initial values\n"
@@ -74,7 +74,7 @@ module _ {V : Type 0} (code : V → ℕ) where
   act-words (sc a v) = sc-words a (code v)
   act-words (snapshot locations) = snapshot-word ++ joined spaced locations
   act-words (kcss v operands) = kcss-word ++ (joined (λ o. spaced (o .location)) operands
-    ++ (expecting-word ++ (joined (λ o. spaced (code (o .expected))) operands ++ new-words (code v))))
+      ++ (expecting-word ++ (joined (λ o. spaced (code (o .expected))) operands ++ new-words (code v))))
 
   abbrev pub operation-line : ℕ → Op V → List ℕ
   operation-line i o = operation-front (i + 1) (o .process) ++ (act-words (o .act) ++ line-end)
@@ -108,4 +108,4 @@ refusal-words ShortOutput = codes "the output is too short"
 
 unfoldable pub refusal-line : SheetFault → List ℕ
 refusal-line f = codes "refused: layer " ++ (decimal 3 ++ (codes ", number " ++ (decimal (refusal-number (f .refusal))
-  ++ (codes ", place " ++ (decimal (f .place) ++ (codes ": " ++ (refusal-words (f .refusal) ++ codes "\n")))))))
+    ++ (codes ", place " ++ (decimal (f .place) ++ (codes ": " ++ (refusal-words (f .refusal) ++ codes "\n")))))))

@@ -48,7 +48,7 @@ module _ {V : Type 0} (code : V → ℕ) (number : ℕ) where
   -- what a sheet of this length says
   abbrev pub parts-text : ℕ → Parts V → List ℕ
   parts-text long p = size-line long ++ (header-line number (length (p .initial)) (p .processes) (length (p .script))
-    ++ (values-text code (p .initial) ++ (operations-text code (p .operations) ++ script-text (p .script))))
+      ++ (values-text code (p .initial) ++ (operations-text code (p .operations) ++ script-text (p .script))))
 
   -- A sheet that is read is described, and said to come back the same when it is written again; one that is
   -- refused gets one line.

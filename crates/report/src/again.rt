@@ -23,14 +23,24 @@ pub struct Again {
 }
 
 // Writes a sheet into an output that is as long as the bytes that it was read from, and compares.
-pub fn write_again<V: ValueKind>(heap: Global, sheet: &Sheet<V>, bytes: &[u8]) -> Result<Again, AllocError>
+pub fn write_again<V: ValueKind>(
+    heap: Global,
+    sheet: &Sheet<V>,
+    bytes: &[u8],
+) -> Result<Again, AllocError>
     requires { ⌜ GivesBack coded number (parts-of (now sheet)) (now bytes) ⌝ }
     ensures { λ r. ⌜ made r (λ again. (again .long ≡ length (now (bytes .entry))) × (again .same ≡ true)) ⌝ }
 {
     let mut out = vec![in heap; 0u8; bytes.len()]?;
     match sheet.write(out.as_mut_slice()) {
-        Ok(long) => Ok(Again { long, same: out.as_slice() == bytes }),
-        Err(_) => Ok(Again { long: 0, same: false }),
+        Ok(long) => Ok(Again {
+            long,
+            same: out.as_slice() == bytes,
+        }),
+        Err(_) => Ok(Again {
+            long: 0,
+            same: false,
+        }),
     }
 }
 

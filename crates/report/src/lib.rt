@@ -8,5 +8,6 @@ mod refusal;
 #[cfg(test)]
 mod tests;
 mod whole;
+
 pub use answer::Report;
 pub use whole::report;

@@ -17,10 +17,19 @@ pub fn push_size(out: &mut String, long: usize) -> fmt::Result
 }
 
 // What the header says.
-pub fn push_header(out: &mut String, kind: u8, locations: usize, processes: u16, items: usize) -> fmt::Result
+pub fn push_header(
+    out: &mut String,
+    kind: u8,
+    locations: usize,
+    processes: u16,
+    items: usize,
+) -> fmt::Result
     ensures { λ r. ⌜ Adds r (string-bytes (now (out .entry))) (header-line kind locations processes items) (string-bytes (now (out .exit))) ⌝ }
 {
-    writeln!(out, "version 1, kind {kind}, {locations} locations, {processes} processes, {items} script items")
+    writeln!(
+        out,
+        "version 1, kind {kind}, {locations} locations, {processes} processes, {items} script items"
+    )
 }
 
 fn push_values_heading(out: &mut String) -> fmt::Result

@@ -12,12 +12,16 @@ fn words(refusal: SheetRefusal) -> &'static str
     ensures { λ r. ⌜ now r ≡ refusal-words refusal ⌝ }
 {
     match refusal {
-        SheetRefusal::WrongLength => "the sheet is shorter than its header or not as long as it says",
-        SheetRefusal::WrongHeader => "version, kind, number of locations, processes or script items is not allowed",
+        SheetRefusal::WrongLength =>
+            "the sheet is shorter than its header or not as long as it says",
+        SheetRefusal::WrongHeader =>
+            "version, kind, number of locations, processes or script items is not allowed",
         SheetRefusal::WrongOffset => "an offset is wrong, below the one before or past the total",
-        SheetRefusal::WrongOperation => "an operation's kind, count, zero byte or an unused code is wrong, it runs past the script, or there are more than 4,096",
+        SheetRefusal::WrongOperation =>
+            "an operation's kind, count, zero byte or an unused code is wrong, it runs past the script, or there are more than 4,096",
         SheetRefusal::WrongCode => "a code gives no value of this kind",
-        SheetRefusal::WrongScript => "a script byte is wrong, or the starts are not as many as the operations",
+        SheetRefusal::WrongScript =>
+            "a script byte is wrong, or the starts are not as many as the operations",
         SheetRefusal::ShortOutput => "the output is too short",
     }
 }
@@ -30,5 +34,8 @@ pub fn push_refusal(out: &mut String, fault: SheetFault) -> fmt::Result
     let number = fault.number();
     let place = fault.place;
     let why = words(fault.refusal);
-    writeln!(out, "refused: layer {layer}, number {number}, place {place}: {why}")
+    writeln!(
+        out,
+        "refused: layer {layer}, number {number}, place {place}: {why}"
+    )
 }

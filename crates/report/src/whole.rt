@@ -40,14 +40,25 @@ fn push_parts<V: ValueKind>(out: &mut String, sheet: &Sheet<V>, long: usize) -> 
     ensures { λ r. ⌜ Adds r (string-bytes (now (out .entry))) (parts-text coded number long (parts-of (now (sheet .entry)))) (string-bytes (now (out .exit))) ⌝ }
 {
     push_size(out, long)?;
-    push_header(out, V::kind_number(), sheet.initial.len(), sheet.processes, sheet.script.len())?;
+    push_header(
+        out,
+        V::kind_number(),
+        sheet.initial.len(),
+        sheet.processes,
+        sheet.script.len(),
+    )?;
     push_values(out, &sheet.initial)?;
     push_operations(out, &sheet.operations)?;
     push_script(out, &sheet.script)
 }
 
 // What a sheet says, and what came when it was written again.
-fn push_sheet<V: ValueKind>(out: &mut String, sheet: &Sheet<V>, long: usize, again: Again) -> fmt::Result
+fn push_sheet<V: ValueKind>(
+    out: &mut String,
+    sheet: &Sheet<V>,
+    long: usize,
+    again: Again,
+) -> fmt::Result
     ensures { λ r. ⌜ Adds r (string-bytes (now (out .entry))) (parts-text coded number long (parts-of (now (sheet .entry))) ++ again-line (again .long) (again .same)) (string-bytes (now (out .exit))) ⌝ }
 {
     push_parts(out, sheet, long)?;
@@ -55,14 +66,21 @@ fn push_sheet<V: ValueKind>(out: &mut String, sheet: &Sheet<V>, long: usize, aga
 }
 
 // The report on a sheet that was read from these bytes.
-fn report_sheet<V: ValueKind>(heap: Global, sheet: &Sheet<V>, bytes: &[u8]) -> Result<Report, AllocError>
+fn report_sheet<V: ValueKind>(
+    heap: Global,
+    sheet: &Sheet<V>,
+    bytes: &[u8],
+) -> Result<Report, AllocError>
     requires { ⌜ GivesBack coded number (parts-of (now sheet)) (now bytes) ⌝ }
     ensures { λ r. ⌜ made r (λ t. Reports t (answer-text coded number (length (now (bytes .entry))) (Ok (parts-of (now (sheet .entry))))) true) ⌝ }
 {
     let again = write_again(heap, sheet, bytes)?;
     let mut text = String::new(heap);
     match push_sheet(&mut text, sheet, bytes.len(), again) {
-        Ok(()) => Ok(Report { text, accepted: true }),
+        Ok(()) => Ok(Report {
+            text,
+            accepted: true,
+        }),
         Err(_) => Err(AllocError),
     }
 }
@@ -73,7 +91,10 @@ fn report_refusal(heap: Global, fault: SheetFault) -> Result<Report, AllocError>
 {
     let mut text = String::new(heap);
     match push_refusal(&mut text, fault) {
-        Ok(()) => Ok(Report { text, accepted: false }),
+        Ok(()) => Ok(Report {
+            text,
+            accepted: false,
+        }),
         Err(_) => Err(AllocError),
     }
 }

@@ -41,18 +41,20 @@ module _ {V : Type 0} (p : Parts V) where
     pub begins : starts (p .script) ≡ length (p .operations)
 
   laid-by : (o s : ℕ) → within 1 256 (length (p .initial)) ≡ true → within 1 32 (p .processes) ≡ true → leb (length (p .script)) 65535 ≡ true
-    → operations-end (operations-at p) 4096 (p .operations) ≡ Ok o → script-end o (p .script) ≡ Ok s → eqb (starts (p .script)) (length (p .operations)) ≡ true → Laid × (s ≡ total p)
+      → operations-end (operations-at p) 4096 (p .operations) ≡ Ok o → script-end o (p .script) ≡ Ok s → eqb (starts (p .script)) (length (p .operations)) ≡ true → Laid × (s ≡ total p)
   laid-by o s l q n f g m =
       let at : o ≡ script-at p = ends (operations-at p) 4096 o (p .operations) f .0 in
-      let end : s ≡ total p = script-ends o s (p .script) g ∙ ap (λ k. k + length (p .script)) at in
-      (record {
-        locations = within-true 1 256 (length (p .initial)) l;
-        processes = within-true 1 32 (p .processes) q;
-        items = leb-true (length (p .script)) 65535 n;
-        operations = f ∙ ap Ok at;
-        script = ap (λ k. script-end k (p .script)) (sym at) ∙ g ∙ ap Ok end;
-        begins = eqb-true (starts (p .script)) (length (p .operations)) m
-      }, end)
+      let end : s ≡ total p = script-ends o s (p .script) g ∙ ap (λ k. k + length (p .script)) at in (
+        record {
+          locations = within-true 1 256 (length (p .initial)) l;
+          processes = within-true 1 32 (p .processes) q;
+          items = leb-true (length (p .script)) 65535 n;
+          operations = f ∙ ap Ok at;
+          script = ap (λ k. script-end k (p .script)) (sym at) ∙ g ∙ ap Ok end;
+          begins = eqb-true (starts (p .script)) (length (p .operations)) m;
+        },
+        end,
+      )
 
   pub laid-out : (t : ℕ) → layout-answer p ≡ Ok t → Laid × (t ≡ total p)
   unfolding layout-answer
@@ -78,10 +80,10 @@ module _ {V : Type 0} (p : Parts V) where
   unfolding write-answer layout-answer
   accepted room l h =
       go-on (layout-answer p) _ (total p) (Ok (total p))
-        (pass (within 1 256 (length (p .initial))) _ _ _ (true-within 1 256 _ (l .locations .0) (l .locations .1))
-        (pass (within 1 32 (p .processes)) _ _ _ (true-within 1 32 _ (l .processes .0) (l .processes .1))
-        (pass (leb (length (p .script)) 65535) _ _ _ (le-leb _ _ (l .items))
-        (go-on (operations-end (operations-at p) 4096 (p .operations)) _ (script-at p) _ (l .operations)
-        (go-on (script-end (script-at p) (p .script)) _ (total p) _ (l .script)
-        (pass (eqb (starts (p .script)) (length (p .operations))) _ _ _ (eq-eqb _ _ (l .begins)) refl))))))
-        (pass (leb (total p) room) _ _ _ (le-leb (total p) room h) refl)
+      (pass (within 1 256 (length (p .initial))) _ _ _ (true-within 1 256 _ (l .locations .0) (l .locations .1))
+      (pass (within 1 32 (p .processes)) _ _ _ (true-within 1 32 _ (l .processes .0) (l .processes .1))
+      (pass (leb (length (p .script)) 65535) _ _ _ (le-leb _ _ (l .items))
+      (go-on (operations-end (operations-at p) 4096 (p .operations)) _ (script-at p) _ (l .operations)
+      (go-on (script-end (script-at p) (p .script)) _ (total p) _ (l .script)
+      (pass (eqb (starts (p .script)) (length (p .operations))) _ _ _ (eq-eqb _ _ (l .begins)) refl))))))
+      (pass (leb (total p) room) _ _ _ (le-leb (total p) room h) refl)

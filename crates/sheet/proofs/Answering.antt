@@ -47,9 +47,9 @@ Kept row at count i done = ahead done (row .all (at + row .width * i) (count - i
 module _ {X : Type 0} (row : Row X) (at count : ℕ) where
   pub kept-first : (done : List X) → done ≡ [] → Kept row at count 0 done
   kept-first done e =
-    let a : at + row .width * 0 ≡ at = rw mul-zero (omega arith) in
-    let n : count - 0 ≡ count = omega arith in
-    ap (λ xs. ahead xs (row .all (at + row .width * 0) (count - 0))) e ∙ ahead-none _ ∙ ap (λ k. row .all k (count - 0)) a ∙ ap (row .all at) n
+      let a : at + row .width * 0 ≡ at = rw mul-zero (omega arith) in
+      let n : count - 0 ≡ count = omega arith in
+      ap (λ xs. ahead xs (row .all (at + row .width * 0) (count - 0))) e ∙ ahead-none _ ∙ ap (λ k. row .all k (count - 0)) a ∙ ap (row .all at) n
 
   module _ (i : ℕ) (done : List X) (left : i < count) (h : Kept row at count i done) where
     later : Result (List X) SheetFault
@@ -58,20 +58,20 @@ module _ {X : Type 0} (row : Row X) (at count : ℕ) where
     unrolled : row .all (at + row .width * i) (count - i) ≡ followed (row .one (at + row .width * i)) later
     unfolding later
     unrolled =
-      let next : (at + row .width * i) + row .width ≡ at + row .width * (i + 1) = let e = mul-add (row .width) i 1 in let o = mul-one (row .width) in omega (arith, e, o) in
-      let n : count - i ≡ suc (count - (i + 1)) = omega arith in
-      ap (row .all (at + row .width * i)) n ∙ row .more (at + row .width * i) (count - (i + 1))
-      ∙ ap (λ k. followed (row .one (at + row .width * i)) (row .all k (count - (i + 1)))) next
+        let next : (at + row .width * i) + row .width ≡ at + row .width * (i + 1) = let e = mul-add (row .width) i 1 in let o = mul-one (row .width) in omega (arith, e, o) in
+        let n : count - i ≡ suc (count - (i + 1)) = omega arith in
+        ap (row .all (at + row .width * i)) n ∙ row .more (at + row .width * i) (count - (i + 1))
+        ∙ ap (λ k. followed (row .one (at + row .width * i)) (row .all k (count - (i + 1)))) next
 
     pub kept-more : (x : X) (done′ : List X) → row .one (at + row .width * i) ≡ Ok x → done′ ≡ done ++ x ∷ [] → Kept row at count (i + 1) done′
     unfolding later
     kept-more x done′ e d =
-      ap (λ xs. ahead xs later) d ∙ ahead-more done x later ∙ sym (ap (ahead done) (unrolled ∙ ap (λ r. followed r later) e)) ∙ h
+        ap (λ xs. ahead xs later) d ∙ ahead-more done x later ∙ sym (ap (ahead done) (unrolled ∙ ap (λ r. followed r later) e)) ∙ h
 
     pub kept-refused : (f : SheetFault) → row .one (at + row .width * i) ≡ Err f → row .all at count ≡ Err f
     kept-refused f e = sym h ∙ ap (ahead done) (unrolled ∙ ap (λ r. followed r later) e)
 
   pub kept-all : (i : ℕ) (done : List X) → count ≤ i → Kept row at count i done → row .all at count ≡ Ok done
   kept-all i done end h =
-    let n : count - i ≡ 0 = omega arith in
-    sym h ∙ ap (ahead done) (ap (row .all (at + row .width * i)) n ∙ row .none (at + row .width * i)) ∙ ap Ok (append-nil done)
+      let n : count - i ≡ 0 = omega arith in
+      sym h ∙ ap (ahead done) (ap (row .all (at + row .width * i)) n ∙ row .none (at + row .width * i)) ∙ ap Ok (append-nil done)

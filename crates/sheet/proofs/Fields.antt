@@ -56,8 +56,8 @@ field-back bytes at (suc w) h k =
     let high : (getD bytes at 0 + 256 * r) / 256 ≡ r = omega arith in
     let place : at + 1 + w ≡ at + suc w = omega arith in
     drop-more bytes at 0 (omega arith)
-      ∙ ap (λ l. getD bytes at 0 ∷ l) (field-back bytes (at + 1) w h (omega arith))
-      ∙ (λ i. sym low i ∷ (bytes-of w (sym high i) ++ drop (place i) bytes))
+    ∙ ap (λ l. getD bytes at 0 ∷ l) (field-back bytes (at + 1) w h (omega arith))
+    ∙ (λ i. sym low i ∷ (bytes-of w (sym high i) ++ drop (place i) bytes))
 
 -- a number that stands in bytes fits them
 pub field-fits : (bytes : List ℕ) (at w : ℕ) → AllBelow 256 bytes → at + w ≤ length bytes → field bytes at w < 256 ^ w

@@ -24,19 +24,19 @@ module _ {V : Type 0} (decode : ℕ → Option V) (bytes : List ℕ) (end : ℕ)
   unfolding operations-answer
   ended zero at h = let e : leb end at ≡ true = grind (arith, tells) in ap (λ b. require b (fault WrongOperation at) (Ok [])) e
   ended (suc left) at h =
-    let e : leb end at ≡ true = grind (arith, tells) in
-    ap (λ b. cond b (Ok []) (followed (operation-answer decode bytes end at) (operations-answer decode bytes end left (at + size-by (getD bytes (at + 2) 0))))) e
+      let e : leb end at ≡ true = grind (arith, tells) in
+      ap (λ b. cond b (Ok []) (followed (operation-answer decode bytes end at) (operations-answer decode bytes end left (at + size-by (getD bytes (at + 2) 0))))) e
 
   full : (at : ℕ) → at < end → operations-answer decode bytes end 0 at ≡ Err (fault WrongOperation at)
   unfolding operations-answer
   full at h = let e : leb end at ≡ false = grind (arith, tells) in ap (λ b. require b (fault WrongOperation at) (Ok [])) e
 
   going : (left at : ℕ) → at < end → operations-answer decode bytes end (suc left) at
-    ≡ followed (operation-answer decode bytes end at) (operations-answer decode bytes end left (at + size-by (getD bytes (at + 2) 0)))
+      ≡ followed (operation-answer decode bytes end at) (operations-answer decode bytes end left (at + size-by (getD bytes (at + 2) 0)))
   unfolding operations-answer
   going left at h =
-    let e : leb end at ≡ false = grind (arith, tells) in
-    ap (λ b. cond b (Ok []) (followed (operation-answer decode bytes end at) (operations-answer decode bytes end left (at + size-by (getD bytes (at + 2) 0))))) e
+      let e : leb end at ≡ false = grind (arith, tells) in
+      ap (λ b. cond b (Ok []) (followed (operation-answer decode bytes end at) (operations-answer decode bytes end left (at + size-by (getD bytes (at + 2) 0))))) e
 
   module _ (most first : ℕ) where
     -- n operations were read, and the next one starts at `next`
@@ -45,8 +45,8 @@ module _ {V : Type 0} (decode : ℕ → Option V) (bytes : List ℕ) (end : ℕ)
 
     pub gathered-none : (done : List (Op V)) (n : ℕ) → done ≡ [] → n ≡ 0 → Gathered done n first
     gathered-none done n e z =
-      let m : most - n ≡ most = omega arith in
-      ap (λ xs. ahead xs (operations-answer decode bytes end (most - n) first)) e ∙ ahead-none _ ∙ ap (λ k. operations-answer decode bytes end k first) m
+        let m : most - n ≡ most = omega arith in
+        ap (λ xs. ahead xs (operations-answer decode bytes end (most - n) first)) e ∙ ahead-none _ ∙ ap (λ k. operations-answer decode bytes end k first) m
 
     module _ (done : List (Op V)) (n next : ℕ) (h : Gathered done n next) where
       pub gathered-all : end ≤ next → operations-answer decode bytes end most first ≡ Ok done
@@ -54,25 +54,25 @@ module _ {V : Type 0} (decode : ℕ → Option V) (bytes : List ℕ) (end : ℕ)
 
       pub gathered-full : n ≡ most → next < end → operations-answer decode bytes end most first ≡ Err (fault WrongOperation next)
       gathered-full e l =
-        let m : most - n ≡ 0 = omega arith in
-        sym h ∙ ap (ahead done) (ap (λ k. operations-answer decode bytes end k next) m ∙ full next l)
+          let m : most - n ≡ 0 = omega arith in
+          sym h ∙ ap (ahead done) (ap (λ k. operations-answer decode bytes end k next) m ∙ full next l)
 
       module _ (some : n < most) (l : next < end) where
         opened : operations-answer decode bytes end (most - n) next
-          ≡ followed (operation-answer decode bytes end next) (operations-answer decode bytes end (most - (n + 1)) (next + size-by (getD bytes (next + 2) 0)))
+            ≡ followed (operation-answer decode bytes end next) (operations-answer decode bytes end (most - (n + 1)) (next + size-by (getD bytes (next + 2) 0)))
         opened =
-          let m : most - n ≡ suc (most - (n + 1)) = omega arith in
-          ap (λ k. operations-answer decode bytes end k next) m ∙ going (most - (n + 1)) next l
+            let m : most - n ≡ suc (most - (n + 1)) = omega arith in
+            ap (λ k. operations-answer decode bytes end k next) m ∙ going (most - (n + 1)) next l
 
         pub gathered-refused : (f : SheetFault) → operation-answer decode bytes end next ≡ Err f → operations-answer decode bytes end most first ≡ Err f
         gathered-refused f e =
-          sym h ∙ ap (ahead done) (opened ∙ ap (λ r. followed r (operations-answer decode bytes end (most - (n + 1)) (next + size-by (getD bytes (next + 2) 0)))) e)
+            sym h ∙ ap (ahead done) (opened ∙ ap (λ r. followed r (operations-answer decode bytes end (most - (n + 1)) (next + size-by (getD bytes (next + 2) 0)))) e)
 
         pub gathered-more : (o : Op V) (done′ : List (Op V)) (n′ after : ℕ) → operation-answer decode bytes end next ≡ Ok o → done′ ≡ done ++ o ∷ []
-          → n′ ≡ n + 1 → after ≡ next + size-by (getD bytes (next + 2) 0) → Gathered done′ n′ after
+            → n′ ≡ n + 1 → after ≡ next + size-by (getD bytes (next + 2) 0) → Gathered done′ n′ after
         gathered-more o done′ n′ after e d c a =
-          let rest = operations-answer decode bytes end (most - (n + 1)) (next + size-by (getD bytes (next + 2) 0)) in
-          ap (λ xs. ahead xs (operations-answer decode bytes end (most - n′) after)) d
-          ∙ ap (λ k. ahead (done ++ o ∷ []) (operations-answer decode bytes end (most - k) after)) c
-          ∙ ap (λ k. ahead (done ++ o ∷ []) (operations-answer decode bytes end (most - (n + 1)) k)) a
-          ∙ ahead-more done o rest ∙ sym (ap (ahead done) (opened ∙ ap (λ r. followed r rest) e)) ∙ h
+            let rest = operations-answer decode bytes end (most - (n + 1)) (next + size-by (getD bytes (next + 2) 0)) in
+            ap (λ xs. ahead xs (operations-answer decode bytes end (most - n′) after)) d
+            ∙ ap (λ k. ahead (done ++ o ∷ []) (operations-answer decode bytes end (most - k) after)) c
+            ∙ ap (λ k. ahead (done ++ o ∷ []) (operations-answer decode bytes end (most - (n + 1)) k)) a
+            ∙ ahead-more done o rest ∙ sym (ap (ahead done) (opened ∙ ap (λ r. followed r rest) e)) ∙ h

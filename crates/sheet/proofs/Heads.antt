@@ -35,7 +35,7 @@ module _ (bytes : List ℕ) (at end : ℕ) where
     head-unknown e = opened ∙ ap (head-by bytes at end) e
 
     pub head-known : (kind : OperationKind) (fits : Bool) → kind-of (getD bytes at 0) ≡ Some kind → head-fits bytes at end kind ≡ fits
-      → head-answer bytes at end ≡ require fits (fault WrongOperation at) (Ok (record { kind = kind; process = getD bytes (at + 1) 0; count = getD bytes (at + 2) 0 }))
+        → head-answer bytes at end ≡ require fits (fault WrongOperation at) (Ok (record { kind = kind; process = getD bytes (at + 1) 0; count = getD bytes (at + 2) 0 }))
     head-known kind fits e f = opened ∙ ap (head-by bytes at end) e ∙ ap (λ b. require b (fault WrongOperation at) (Ok (record { kind = kind; process = getD bytes (at + 1) 0; count = getD bytes (at + 2) 0 }))) f
 
 -- a head that was found right: the count is the one that stands there, and the operation ends in time
@@ -59,17 +59,17 @@ module _ (bytes : List ℕ) (at end : ℕ) (head : OperationHead) where
   shape-by : (kind : Option OperationKind) → head-by bytes at end kind ≡ Ok head → Shape bytes at end head
   shape-by None e = absurd (let z : _≡_ {A = ℕ} 0 1 = cc in omega arith)
   shape-by (Some kind) e =
-    let found : OperationHead = record { kind = kind; process = getD bytes (at + 1) 0; count = getD bytes (at + 2) 0 } in
-    let t = require-ok (head-fits bytes at end kind) (fault WrongOperation at) (Ok found) head e in
-    let same : getD bytes (at + 2) 0 ≡ head .count = let f = t .1 in cc in
-    let n = getD bytes (at + 2) 0 in
-    let codes = (takes-new kind || eqb (field bytes (at + 4) 8) 0) && (takes-expected kind || unused bytes (at + 12) n) in
-    let a = both (counted kind n) (eqb (getD bytes (at + 3) 0) 0 && (leb (at + size-by n) end && codes)) (t .0) in
-    let b = both (eqb (getD bytes (at + 3) 0) 0) (leb (at + size-by n) end && codes) (a .1) in
-    let c = both (leb (at + size-by n) end) codes (b .1) in
-    let some = some-counted kind n (a .0) in
-    let fits : at + size-by (getD bytes (at + 2) 0) ≤ end = let d = c .0 in grind (arith, tells) in
-    record { counts = sym same; some = omega (arith, same, some); inside = omega (arith, same, fits) }
+      let found : OperationHead = record { kind = kind; process = getD bytes (at + 1) 0; count = getD bytes (at + 2) 0 } in
+      let t = require-ok (head-fits bytes at end kind) (fault WrongOperation at) (Ok found) head e in
+      let same : getD bytes (at + 2) 0 ≡ head .count = let f = t .1 in cc in
+      let n = getD bytes (at + 2) 0 in
+      let codes = (takes-new kind || eqb (field bytes (at + 4) 8) 0) && (takes-expected kind || unused bytes (at + 12) n) in
+      let a = both (counted kind n) (eqb (getD bytes (at + 3) 0) 0 && (leb (at + size-by n) end && codes)) (t .0) in
+      let b = both (eqb (getD bytes (at + 3) 0) 0) (leb (at + size-by n) end && codes) (a .1) in
+      let c = both (leb (at + size-by n) end) codes (b .1) in
+      let some = some-counted kind n (a .0) in
+      let fits : at + size-by (getD bytes (at + 2) 0) ≤ end = let d = c .0 in grind (arith, tells) in
+      record { counts = sym same; some = omega (arith, same, some); inside = omega (arith, same, fits) }
 
   pub head-shape : head-answer bytes at end ≡ Ok head → Shape bytes at end head
   unfolding head-answer

@@ -22,10 +22,10 @@ field-drop : (bytes : List ℕ) (k at width : ℕ) → field (drop k bytes) at w
 unfolding field
 field-drop bytes k at zero = refl
 field-drop bytes k at (suc width) =
-  let here = getD-drop k bytes at 0 in
-  let there = field-drop bytes k (at + 1) width in
-  let a : k + (at + 1) ≡ (k + at) + 1 = omega arith in
-  cc (ap (λ n. field bytes n width) a)
+    let here = getD-drop k bytes at 0 in
+    let there = field-drop bytes k (at + 1) width in
+    let a : k + (at + 1) ≡ (k + at) + 1 = omega arith in
+    cc (ap (λ n. field bytes n width) a)
 
 pub field-rest : (bytes : List ℕ) (k at width : ℕ) → field (take (length bytes - k) (drop k bytes)) at width ≡ field bytes (k + at) width
 field-rest bytes k at width = ap (λ bs. field bs at width) (take-rest bytes k) ∙ field-drop bytes k at width
@@ -47,9 +47,9 @@ module _ (bytes : List ℕ) (at width i : ℕ) (some : 0 < i) (inside : i ≤ wi
   pub field-more : field bytes (at + (i - 1)) (width - (i - 1)) ≡ getD bytes (at + (i - 1)) 0 + 256 * field bytes (at + i) (width - i)
   unfolding field
   field-more =
-    let w : width - (i - 1) ≡ suc (width - i) = omega arith in
-    let a : (at + (i - 1)) + 1 ≡ at + i = omega arith in
-    ap (field bytes (at + (i - 1))) w ∙ ap (λ k. getD bytes (at + (i - 1)) 0 + 256 * field bytes k (width - i)) a
+      let w : width - (i - 1) ≡ suc (width - i) = omega arith in
+      let a : (at + (i - 1)) + 1 ≡ at + i = omega arith in
+      ap (field bytes (at + (i - 1))) w ∙ ap (λ k. getD bytes (at + (i - 1)) 0 + 256 * field bytes k (width - i)) a
 
   power-more : 256 ^ (width - (i - 1)) ≡ 256 * 256 ^ (width - i)
   power-more = let w : width - (i - 1) ≡ suc (width - i) = omega arith in ap (λ k. 256 ^ k) w ∙ pow-succ' 256 (width - i)
@@ -59,9 +59,9 @@ module _ (bytes : List ℕ) (at width i : ℕ) (some : 0 < i) (inside : i ≤ wi
 
   pub below-word : (n : ℕ) → width ≤ 8 → n < 256 ^ (width - i) → n < 2 ^ 56
   below-word n h k =
-    let le : width - i ≤ 7 = omega arith in
-    let p : 256 ^ (width - i) ≤ 256 ^ 7 = pow-le-pow-right (lit< tt) le in
-    omega arith
+      let le : width - i ≤ 7 = omega arith in
+      let p : 256 ^ (width - i) ≤ 256 ^ 7 = pow-le-pow-right (lit< tt) le in
+      omega arith
 
 -- the elements of a slice lie below what their width can hold
 pub all-below : {w : Width} (xs : List ℕ) → ((i : ℕ) → Fits w (getD xs i 0)) → AllBelow (2 ^ bits w) xs

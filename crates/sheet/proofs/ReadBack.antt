@@ -41,8 +41,8 @@ module _ (bytes : List ℕ) where
       let p = passed (writable i) (fault WrongScript at) (script-end (at + 1) items) end h in
       let b = byte-at bytes at (item-byte i) (map item-byte items ++ rest) e in
       gather (okOr (item-of (getD bytes at 0)) (fault WrongScript at)) (script-answer bytes (at + 1) (length items)) i items
-        (ap (λ x. okOr (item-of x) (fault WrongScript at)) b ∙ ap (λ x. okOr x (fault WrongScript at)) (item-read i (p .0)))
-        (script-read (at + 1) end items rest (p .1) (drop-past bytes at 1 (item-byte i ∷ (map item-byte items ++ rest)) e))
+      (ap (λ x. okOr (item-of x) (fault WrongScript at)) b ∙ ap (λ x. okOr x (fault WrongScript at)) (item-read i (p .0)))
+      (script-read (at + 1) end items rest (p .1) (drop-past bytes at 1 (item-byte i ∷ (map item-byte items ++ rest)) e))
 
   -- items of one width, one after another
   module _ {X : Type 0} (w : ℕ) (f : X → List ℕ) (Good : List X → Type 0) (one : ℕ → Result X SheetFault) (many : ℕ → ℕ → Result (List X) SheetFault)
@@ -67,9 +67,10 @@ module _ (bytes : List ℕ) where
     locations-read at (a ∷ ls) rest h e =
         let more = joined (location-bytes code) ls in
         let one = operand-read at a 0 (more ++ rest) (h .0) (omega arith) (e ∙ append-assoc (location-bytes code a) more rest) in
-        let ih = locations-read (at + 10) ls rest (h .1) (one .2) in
-        (and-from (eqb (field bytes (at + 2) 8) 0) (unused bytes (at + 10) (length ls)) (ap (λ c. eqb c 0) (one .1)) (ih .0),
-         λ i. one .0 i ∷ ih .1 i)
+        let ih = locations-read (at + 10) ls rest (h .1) (one .2) in (
+          and-from (eqb (field bytes (at + 2) 8) 0) (unused bytes (at + 10) (length ls)) (ap (λ c. eqb c 0) (one .1)) (ih .0),
+          λ i. one .0 i ∷ ih .1 i,
+        )
 
     -- the one location of an operation that names no more
     pub location-read : (at a : ℕ) (rest : List ℕ) → a < 65536 → drop at bytes ≡ location-bytes code a ++ rest → (unused bytes at 1 ≡ true) × (field bytes at 2 ≡ a)
@@ -88,11 +89,14 @@ module _ (bytes : List ℕ) where
           (λ k v _ r _ d. (value-by k v (field-read bytes k 8 (code v) r (small v) d), next bytes k 8 (value-bytes code v) r (bytes-length 8 (code v)) d, tt)) at vs rest tt e
 
       expected-read : (at : ℕ) (o : Operand V) (os : List (Operand V)) (rest : List ℕ) → Operands (o ∷ os) → drop at bytes ≡ expected-bytes code o ++ rest
-        → (operand-answer decode bytes at ≡ Ok o) × (drop (at + 10) bytes ≡ rest) × Operands os
+          → (operand-answer decode bytes at ≡ Ok o) × (drop (at + 10) bytes ≡ rest) × Operands os
       expected-read at o os rest h e =
-          let one = operand-read at (o .location) (code (o .expected)) rest (h .0) (small (o .expected)) e in
-          (go-on (value-answer decode bytes (at + 2)) (λ v. Ok (record { location = field bytes at 2; expected = v })) (o .expected) (Ok o)
-            (value-by (at + 2) (o .expected) (one .1)) (λ i. Ok (record { location = one .0 i; expected = o .expected })), one .2, h .1)
+          let one = operand-read at (o .location) (code (o .expected)) rest (h .0) (small (o .expected)) e in (
+            go-on (value-answer decode bytes (at + 2)) (λ v. Ok (record { location = field bytes at 2; expected = v })) (o .expected) (Ok o)
+                (value-by (at + 2) (o .expected) (one .1)) (λ i. Ok (record { location = one .0 i; expected = o .expected })),
+            one .2,
+            h .1,
+          )
 
       pub operands-read : (at : ℕ) (os : List (Operand V)) (rest : List ℕ) → Operands os → drop at bytes ≡ joined (expected-bytes code) os ++ rest → operands-answer decode bytes at (length os) ≡ Ok os
       unfolding operands-answer

@@ -91,49 +91,49 @@ module _ (bytes : List ℕ) {V : Type 0} (code : V → ℕ) where
           count-byte = byte-past bytes at 2 l e;
           zero-byte = byte-past bytes at 3 l e;
           new = field-read bytes (at + 4) 8 n _ (new-small (o .act)) (p .0);
-          operands = ap (λ k. drop k bytes) (sym place) ∙ p .1
+          operands = ap (λ k. drop k bytes) (sym place) ∙ p .1;
         }
 
   head-read : (at end : ℕ) (o : Op V) (rest : List ℕ) → Fitting (o .act) → counted (act-kind (o .act)) (act-count (o .act)) ≡ true → at + size-by (act-count (o .act)) ≤ end → Parted at o rest
-    → head-answer bytes at end ≡ Ok (record { kind = act-kind (o .act); process = o .process; count = act-count (o .act) })
+      → head-answer bytes at end ≡ Ok (record { kind = act-kind (o .act); process = o .process; count = act-count (o .act) })
   unfolding head-answer
   head-read at end o rest h c room d =
       let k : OperationKind = act-kind (o .act) in
       let n : ℕ = act-count (o .act) in
       let fits : head-fits bytes at end k ≡ true =
-            and-from _ _ (ap (counted k) (d .count-byte) ∙ c)
-              (and-from _ _ (ap (λ b. eqb b 0) (d .zero-byte))
-              (and-from _ _ (ap (λ x. leb (at + size-by x) end) (d .count-byte) ∙ le-leb (at + size-by n) end room)
-              (and-from _ _ (ap (λ x. takes-new k || eqb x 0) (d .new) ∙ new-unused (o .act))
-                (ap (λ x. takes-expected k || unused bytes (at + 12) x) (d .count-byte) ∙ expected-unused (at + 12) (o .act) rest h (d .operands))))) in
+      and-from _ _ (ap (counted k) (d .count-byte) ∙ c)
+      (and-from _ _ (ap (λ b. eqb b 0) (d .zero-byte))
+      (and-from _ _ (ap (λ x. leb (at + size-by x) end) (d .count-byte) ∙ le-leb (at + size-by n) end room)
+      (and-from _ _ (ap (λ x. takes-new k || eqb x 0) (d .new) ∙ new-unused (o .act))
+      (ap (λ x. takes-expected k || unused bytes (at + 12) x) (d .count-byte) ∙ expected-unused (at + 12) (o .act) rest h (d .operands))))) in
       pass (leb (at + 12) end) (fault WrongOperation at) (head-by bytes at end (kind-of (getD bytes at 0))) _ (le-leb (at + 12) end (omega arith))
-        (ap (head-by bytes at end) (ap kind-of (d .kind-byte) ∙ kind-read k)
-          ∙ pass (head-fits bytes at end k) (fault WrongOperation at) (Ok (record { kind = k; process = getD bytes (at + 1) 0; count = getD bytes (at + 2) 0 })) _ fits
-              (λ i. Ok (record { kind = k; process = d .process-byte i; count = d .count-byte i })))
+      (ap (head-by bytes at end) (ap kind-of (d .kind-byte) ∙ kind-read k)
+      ∙ pass (head-fits bytes at end k) (fault WrongOperation at) (Ok (record { kind = k; process = getD bytes (at + 1) 0; count = getD bytes (at + 2) 0 })) _ fits
+      (λ i. Ok (record { kind = k; process = d .process-byte i; count = d .count-byte i })))
 
   module _ (decode : ℕ → Option V) (back : (v : V) → decode (code v) ≡ Some v) (small : (v : V) → code v < 2 ^ 64) where
     action-read : (at : ℕ) (a : Act V) (rest : List ℕ) → Fitting a → field bytes (at + 4) 8 ≡ new-code code a → drop (at + 12) bytes ≡ operands-bytes code a ++ rest
-      → action-by decode bytes at (act-kind a) (act-count a) ≡ Ok a
+        → action-by decode bytes at (act-kind a) (act-count a) ≡ Ok a
     action-read at (read a) rest h n e = ap (λ x. Ok (read x)) (location-read bytes code (at + 12) a rest h e .1)
     action-read at (ll a) rest h n e = ap (λ x. Ok (ll x)) (location-read bytes code (at + 12) a rest h e .1)
     action-read at (sc a v) rest h n e =
         go-on (value-answer decode bytes (at + 4)) (λ x. Ok (sc (field bytes (at + 12) 2) x)) v (Ok (sc a v)) (value-by bytes code decode back small (at + 4) v n)
-          (ap (λ x. Ok (sc x v)) (location-read bytes code (at + 12) a rest h e .1))
+        (ap (λ x. Ok (sc x v)) (location-read bytes code (at + 12) a rest h e .1))
     action-read at (snapshot ls) rest h n e = ap (λ x. Ok (snapshot x)) (locations-read bytes code (at + 12) ls rest h e .1)
     action-read at (kcss v os) rest h n e =
         go-on (value-answer decode bytes (at + 4)) _ v (Ok (kcss v os)) (value-by bytes code decode back small (at + 4) v n)
-          (go-on (operands-answer decode bytes (at + 12) (length os)) (λ x. Ok (kcss v x)) os (Ok (kcss v os)) (operands-read bytes code decode back small (at + 12) os rest h e) refl)
+        (go-on (operands-answer decode bytes (at + 12) (length os)) (λ x. Ok (kcss v x)) os (Ok (kcss v os)) (operands-read bytes code decode back small (at + 12) os rest h e) refl)
 
     operation-read : (at end : ℕ) (o : Op V) (rest : List ℕ) → Fitting (o .act) → counted (act-kind (o .act)) (act-count (o .act)) ≡ true → at + size-by (act-count (o .act)) ≤ end → Parted at o rest
-      → operation-answer decode bytes end at ≡ Ok o
+        → operation-answer decode bytes end at ≡ Ok o
     unfolding operation-answer
     operation-read at end o rest h c room d =
         go-on (head-answer bytes at end) (action-answer decode bytes at) _ (Ok o) (head-read at end o rest h c room d)
-          (go-on (action-by decode bytes at (act-kind (o .act)) (act-count (o .act))) (λ a. Ok (record { process = o .process; act = a })) (o .act) (Ok o)
-            (action-read at (o .act) rest h (d .new) (d .operands)) refl)
+        (go-on (action-by decode bytes at (act-kind (o .act)) (act-count (o .act))) (λ a. Ok (record { process = o .process; act = a })) (o .act) (Ok o)
+        (action-read at (o .act) rest h (d .new) (d .operands)) refl)
 
     pub operations-read : (at left end : ℕ) (ops : List (Op V)) (rest : List ℕ) → AllFitting ops → operations-end at left ops ≡ Ok end → drop at bytes ≡ joined (op-bytes code) ops ++ rest
-      → operations-answer decode bytes end left at ≡ Ok ops
+        → operations-answer decode bytes end left at ≡ Ok ops
     unfolding operations-answer operations-end
     operations-read at zero end [] rest h l e = pass (leb end at) (fault WrongOperation at) (Ok []) (Ok []) (le-leb end at (omega (arith, ok-same at end l))) refl
     operations-read at (suc left) end [] rest h l e = cond-true (leb end at) (Ok []) _ (le-leb end at (omega (arith, ok-same at end l)))
@@ -146,6 +146,6 @@ module _ (bytes : List ℕ) {V : Type 0} (code : V → ℕ) where
         let q = peel bytes at (size-by n) (op-bytes code o) more rest (op-length code o) e in
         let d = parted small at o (more ++ rest) (q .0) in
         cond-false (leb end at) (Ok []) _ (lt-leb end at (omega arith))
-          ∙ gather (operation-answer decode bytes end at) (operations-answer decode bytes end left (at + size-by (getD bytes (at + 2) 0))) o ops
-              (operation-read at end o (more ++ rest) (h .0) (p .0) (omega arith) d)
-              (ap (λ x. operations-answer decode bytes end left (at + size-by x)) (d .count-byte) ∙ operations-read (at + size-by n) left end ops rest (h .1) (p .1) (q .1))
+        ∙ gather (operation-answer decode bytes end at) (operations-answer decode bytes end left (at + size-by (getD bytes (at + 2) 0))) o ops
+        (operation-read at end o (more ++ rest) (h .0) (p .0) (omega arith) d)
+        (ap (λ x. operations-answer decode bytes end left (at + size-by x)) (d .count-byte) ∙ operations-read (at + size-by n) left end ops rest (h .1) (p .1) (q .1))

@@ -67,11 +67,11 @@ module _ {V : Type 0} (code : V → ℕ) (number : ℕ) (p : Parts V) (bytes bod
         operations-place = field-read bytes 12 4 (operations-at p) _ (omega arith) (at12 .0);
         script-place = field-read bytes 16 4 (script-at p) _ (omega arith) (at16 .0);
         length-field = field-read bytes 20 4 (total p) body (omega arith) (at16 .1);
-        rest = next bytes 20 4 t body (bytes-length 4 (total p)) (at16 .1)
+        rest = next bytes 20 4 t body (bytes-length 4 (total p)) (at16 .1);
       }
 
   header-read : Laid p → length bytes ≡ total p → Headed
-    → header-answer bytes number ≡ Ok (record { locations = length (p .initial); processes = p .processes; items = length (p .script); operations = operations-at p; script = script-at p })
+      → header-answer bytes number ≡ Ok (record { locations = length (p .initial); processes = p .processes; items = length (p .script); operations = operations-at p; script = script-at p })
   unfolding header-answer
   header-read d n h =
       pass (leb 24 (length bytes)) _ _ _ (le-leb _ _ (omega arith))
@@ -83,7 +83,7 @@ module _ {V : Type 0} (code : V → ℕ) (number : ℕ) (p : Parts V) (bytes bod
       (pass _ _ _ _ (eq-eqb (field bytes 8 4) 24 (h .values-place))
       (pass _ _ _ _ (and-from (eqb (field bytes 12 4) (24 + 8 * field bytes 2 2)) (leb (field bytes 12 4) (length bytes)) (eq-eqb _ _ (omega arith)) (le-leb _ _ (omega arith)))
       (pass _ _ _ _ (and-from (eqb (field bytes 16 4 + field bytes 6 2) (length bytes)) (leb (field bytes 12 4) (field bytes 16 4)) (eq-eqb _ _ (omega arith)) (le-leb _ _ (omega arith)))
-        (λ i. Ok (record { locations = h .locations i; processes = h .processes i; items = h .items i; operations = h .operations-place i; script = h .script-place i }))))))))))
+      (λ i. Ok (record { locations = h .locations i; processes = h .processes i; items = h .items i; operations = h .operations-place i; script = h .script-place i }))))))))))
 
 module _ {V : Type 0} (code : V → ℕ) (decode : ℕ → Option V) (number : ℕ) (back : (v : V) → decode (code v) ≡ Some v) (small : (v : V) → code v < 2 ^ 64) where
   sheet-read : (p : Parts V) (bytes : List ℕ) → AllFitting (p .operations) → Laid p → bytes ≡ sheet-bytes code number p → read-answer decode bytes number ≡ Ok p
@@ -100,9 +100,9 @@ module _ {V : Type 0} (code : V → ℕ) (decode : ℕ → Option V) (number : �
       go-on (header-answer bytes number) (body-answer decode bytes) _ (Ok p) (header-read code number p bytes (vs ++ (os ++ is)) d size h)
       (go-on (values-answer decode bytes 24 (length (p .initial))) _ (p .initial) (Ok p) (values-read bytes code decode back small 24 (p .initial) (os ++ is) (h .rest))
       (go-on (operations-answer decode bytes (script-at p) 4096 (operations-at p)) _ (p .operations) (Ok p)
-        (operations-read bytes code decode back small (operations-at p) 4096 (script-at p) (p .operations) is f (d .operations) operations-bytes)
+      (operations-read bytes code decode back small (operations-at p) 4096 (script-at p) (p .operations) is f (d .operations) operations-bytes)
       (go-on (script-answer bytes (script-at p) (length (p .script))) _ (p .script) (Ok p)
-        (script-read bytes (script-at p) (total p) (p .script) [] (d .script) script-bytes)
+      (script-read bytes (script-at p) (total p) (p .script) [] (d .script) script-bytes)
       (pass (eqb (starts (p .script)) (length (p .operations))) _ _ _ (eq-eqb _ _ (d .begins)) refl))))
 
   pub write-then-read : (p : Parts V) (out : List ℕ) → WriteThenRead code decode number p out
@@ -110,5 +110,5 @@ module _ {V : Type 0} (code : V → ℕ) (decode : ℕ → Option V) (number : �
       let l = laid p n (length out) e in
       let bs : List ℕ = sheet-bytes code number p in
       let same : take n (cond (isOk (write-answer p (length out))) (overwritten bs out) out) ≡ bs =
-            ap (λ r. take n (cond (isOk r) (overwritten bs out) out)) e ∙ take-at bs (drop (length bs) out) n (sheet-length code number p ∙ sym (l .1)) in
+      ap (λ r. take n (cond (isOk r) (overwritten bs out) out)) e ∙ take-at bs (drop (length bs) out) n (sheet-length code number p ∙ sym (l .1)) in
       sheet-read p _ f (l .0) same

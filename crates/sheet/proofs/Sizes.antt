@@ -45,5 +45,13 @@ module _ {V : Type 0} (code : V → ℕ) where
       let vs = joined (value-bytes code) (p .initial) in
       let os = joined (op-bytes code) (p .operations) in
       let is = map item-byte (p .script) in
-      omega (arith, length-append (header-bytes code number p) (vs ++ (os ++ is)), length-append vs (os ++ is), length-append os is, header-length number p,
-        joined-length (value-bytes code) 8 (λ v. bytes-length 8 (code v)) (p .initial), ops-length (p .operations), length-map (p .script) item-byte)
+      omega (
+        arith,
+        length-append (header-bytes code number p) (vs ++ (os ++ is)),
+        length-append vs (os ++ is),
+        length-append os is,
+        header-length number p,
+        joined-length (value-bytes code) 8 (λ v. bytes-length 8 (code v)) (p .initial),
+        ops-length (p .operations),
+        length-map (p .script) item-byte,
+      )

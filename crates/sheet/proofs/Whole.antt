@@ -54,7 +54,7 @@ module _ {V : Type 0} (decode : ℕ → Option V) (bytes : List ℕ) (number : �
         script-refused f e = operated-so ∙ ap (λ r. then r (λ items. joined-answer decode bytes h values ops items)) e
 
         pub sheet-judged : (items : List ScriptItem) (fits : Bool) → script-answer bytes (h .script) (h .items) ≡ Ok items → eqb (starts items) (length ops) ≡ fits
-          → read-answer decode bytes number ≡ require fits (fault WrongScript (length bytes)) (Ok (record { initial = values; processes = h .processes; operations = ops; script = items }))
+            → read-answer decode bytes number ≡ require fits (fault WrongScript (length bytes)) (Ok (record { initial = values; processes = h .processes; operations = ops; script = items }))
         sheet-judged items fits e t =
-          operated-so ∙ ap (λ r. then r (λ items. joined-answer decode bytes h values ops items)) e
-          ∙ ap (λ b. require b (fault WrongScript (length bytes)) (Ok (record { initial = values; processes = h .processes; operations = ops; script = items }))) t
+            operated-so ∙ ap (λ r. then r (λ items. joined-answer decode bytes h values ops items)) e
+            ∙ ap (λ b. require b (fault WrongScript (length bytes)) (Ok (record { initial = values; processes = h .processes; operations = ops; script = items }))) t

@@ -65,7 +65,7 @@ module _ (bytes : List ℕ) where
       subst (Scripted at (suc n)) (sym (s .whole)) (record {
         count = ap suc (ih .count);
         stands = drop-more bytes at 0 (omega arith) ∙ (λ k. sym (i .0) k ∷ up-to (at + 1) (at + 1 + n) (at + suc n) (map item-byte (s .others)) place (ih .stands) k);
-        laid = pass (writable (s .first)) (fault WrongScript at) (script-end (at + 1) (s .others)) _ (i .1) (ih .laid ∙ ap Ok place)
+        laid = pass (writable (s .first)) (fault WrongScript at) (script-end (at + 1) (s .others)) _ (i .1) (ih .laid ∙ ap Ok place);
       })
 
   -- items of one width that were read one after another
@@ -83,15 +83,18 @@ module _ (bytes : List ℕ) where
         let s = split (one at) (many (at + w) n) xs (sym (more at n) ∙ e) in
         let ih = items-back (at + w) n (s .others) (omega arith) (s .others-are) in
         let place : at + w + w * n ≡ at + w * suc n = omega arith in
-        subst (Filled at (suc n)) (sym (s .whole)) (ap suc (ih .0), join at (at + w) (at + w * suc n) (f (s .first)) (joined f (s .others)) (back at (s .first) (omega arith) (s .first-is))
-          (up-to (at + w) (at + w + w * n) (at + w * suc n) (joined f (s .others)) place (ih .1)))
+        subst (Filled at (suc n)) (sym (s .whole)) (
+          ap suc (ih .0),
+          join at (at + w) (at + w * suc n) (f (s .first)) (joined f (s .others)) (back at (s .first) (omega arith) (s .first-is))
+              (up-to (at + w) (at + w + w * n) (at + w * suc n) (joined f (s .others)) place (ih .1)),
+        )
 
   module _ (all : AllBelow 256 bytes) where
     operand-back : (at : ℕ) → at + 10 ≤ length bytes → drop at bytes ≡ operand-bytes (field bytes at 2) (field bytes (at + 2) 8) ++ drop (at + 10) bytes
     operand-back at h =
         let place : at + 2 + 8 ≡ at + 10 = omega arith in
         join at (at + 2) (at + 10) (bytes-of 2 (field bytes at 2)) (bytes-of 8 (field bytes (at + 2) 8)) (field-back bytes at 2 all (omega arith))
-          (up-to (at + 2) (at + 2 + 8) (at + 10) (bytes-of 8 (field bytes (at + 2) 8)) place (field-back bytes (at + 2) 8 all (omega arith)))
+        (up-to (at + 2) (at + 2 + 8) (at + 10) (bytes-of 8 (field bytes (at + 2) 8)) place (field-back bytes (at + 2) 8 all (omega arith)))
 
     module _ {V : Type 0} (code : V → ℕ) where
       -- an operand with no expected code
@@ -103,7 +106,7 @@ module _ (bytes : List ℕ) where
       location-back at h e = location-by at h (and-parts (eqb (field bytes (at + 2) 8) 0) true e .0)
 
       pub locations-back : (at n : ℕ) → at + 10 * n ≤ length bytes → unused bytes at n ≡ true
-        → (length (locations-from bytes at n) ≡ n) × (drop at bytes ≡ joined (location-bytes code) (locations-from bytes at n) ++ drop (at + 10 * n) bytes)
+          → (length (locations-from bytes at n) ≡ n) × (drop at bytes ≡ joined (location-bytes code) (locations-from bytes at n) ++ drop (at + 10 * n) bytes)
       unfolding unused locations-from
       locations-back at zero h e = (refl, nothing at (at + 10 * 0) (omega arith))
       locations-back at (suc n) h e =

@@ -69,7 +69,7 @@ module _ (bytes : List ℕ) where
         zero-byte = eqb-true (getD bytes (at + 3) 0) 0 (b .0);
         inside = leb-true (at + size-by n) end (c .0);
         new = d .0;
-        expected = d .1
+        expected = d .1;
       })
 
   head-back : (at end : ℕ) (h : OperationHead) → head-answer bytes at end ≡ Ok h → Headed at end h
@@ -100,16 +100,18 @@ module _ (bytes : List ℕ) where
 
   module _ (all : AllBelow 256 bytes) {V : Type 0} (code : V → ℕ) where
     one-back : (at count : ℕ) → at + size-by count ≤ length bytes → eqb count 1 ≡ true → unused bytes (at + 12) count ≡ true
-      → (1 ≡ count) × (drop (at + 12) bytes ≡ location-bytes code (field bytes (at + 12) 2) ++ drop (at + size-by count) bytes)
+        → (1 ≡ count) × (drop (at + 12) bytes ≡ location-bytes code (field bytes (at + 12) 2) ++ drop (at + size-by count) bytes)
     one-back at count h c u =
         let one : 1 ≡ count = sym (eqb-true count 1 c) in
-        let place : at + 12 + 10 ≡ at + size-by count = omega arith in
-        (one, up-to bytes (at + 12) (at + 12 + 10) (at + size-by count) (location-bytes code (field bytes (at + 12) 2)) place
-          (location-back bytes all code (at + 12) (omega arith) (ap (unused bytes (at + 12)) one ∙ u)))
+        let place : at + 12 + 10 ≡ at + size-by count = omega arith in (
+          one,
+          up-to bytes (at + 12) (at + 12 + 10) (at + size-by count) (location-bytes code (field bytes (at + 12) 2)) place
+              (location-back bytes all code (at + 12) (omega arith) (ap (unused bytes (at + 12)) one ∙ u)),
+        )
 
     module _ (decode : ℕ → Option V) (kept : (c : ℕ) (v : V) → decode c ≡ Some v → code v ≡ c) where
       action-back : (at : ℕ) (kind : OperationKind) (count : ℕ) (a : Act V) → at + size-by count ≤ length bytes → counted kind count ≡ true
-        → (takes-new kind || eqb (field bytes (at + 4) 8) 0) ≡ true → (takes-expected kind || unused bytes (at + 12) count) ≡ true → action-by decode bytes at kind count ≡ Ok a → Acted code at kind count a
+          → (takes-new kind || eqb (field bytes (at + 4) 8) 0) ≡ true → (takes-expected kind || unused bytes (at + 12) count) ≡ true → action-by decode bytes at kind count ≡ Ok a → Acted code at kind count a
       action-back at Read count a h c n u e =
           let one = one-back at count h c u in
           subst (Acted code at Read count) (ok-same _ a e) (record { kind-is = refl; count-is = one .0; new = eqb-true (field bytes (at + 4) 8) 0 n; operands = one .1 })
@@ -143,21 +145,21 @@ module _ (bytes : List ℕ) where
           let p12 : at + 4 + 8 ≡ at + 12 = omega arith in
           let code-bytes : List ℕ = bytes-of 8 (new-code code a) in
           let last : drop (at + 4) bytes ≡ (code-bytes ++ operands-bytes code a) ++ rest =
-                join bytes (at + 4) (at + 12) (at + size-by (h .count)) code-bytes (operands-bytes code a)
-                  (up-to bytes (at + 4) (at + 4 + 8) (at + 12) code-bytes p12 (field-back bytes (at + 4) 8 all (omega arith) ∙ ap (λ c. bytes-of 8 c ++ drop (at + 4 + 8) bytes) (x .new)))
-                  (x .operands) in
+          join bytes (at + 4) (at + 12) (at + size-by (h .count)) code-bytes (operands-bytes code a)
+          (up-to bytes (at + 4) (at + 4 + 8) (at + 12) code-bytes p12 (field-back bytes (at + 4) 8 all (omega arith) ∙ ap (λ c. bytes-of 8 c ++ drop (at + 4 + 8) bytes) (x .new)))
+          (x .operands) in
           let third : drop (at + 3) bytes ≡ 0 ∷ ((code-bytes ++ operands-bytes code a) ++ rest) =
-                drop-more bytes (at + 3) 0 (omega arith) ∙ (λ i. d .zero-byte i ∷ (ap (λ k. drop k bytes) p4 ∙ last) i) in
+          drop-more bytes (at + 3) 0 (omega arith) ∙ (λ i. d .zero-byte i ∷ (ap (λ k. drop k bytes) p4 ∙ last) i) in
           let second : drop (at + 2) bytes ≡ act-count a ∷ 0 ∷ ((code-bytes ++ operands-bytes code a) ++ rest) =
-                drop-more bytes (at + 2) 0 (omega arith) ∙ (λ i. (sym (d .count-byte) ∙ count) i ∷ (ap (λ k. drop k bytes) p3 ∙ third) i) in
+          drop-more bytes (at + 2) 0 (omega arith) ∙ (λ i. (sym (d .count-byte) ∙ count) i ∷ (ap (λ k. drop k bytes) p3 ∙ third) i) in
           let first : drop (at + 1) bytes ≡ h .process ∷ act-count a ∷ 0 ∷ ((code-bytes ++ operands-bytes code a) ++ rest) =
-                drop-more bytes (at + 1) 0 (omega arith) ∙ (λ i. sym (d .process-byte) i ∷ (ap (λ k. drop k bytes) p2 ∙ second) i) in
+          drop-more bytes (at + 1) 0 (omega arith) ∙ (λ i. sym (d .process-byte) i ∷ (ap (λ k. drop k bytes) p2 ∙ second) i) in
           record {
             count-byte = sym (d .count-byte) ∙ count;
             counts = ap (λ k. counted k (act-count a)) (x .kind-is) ∙ ap (counted (h .kind)) (x .count-is) ∙ d .counts;
             inside = omega (arith, d .inside);
             stands = drop-more bytes at 0 (omega (arith, d .room)) ∙ (λ i. (sym (d .kind-byte) ∙ ap kind-number (sym (x .kind-is))) i ∷ first i)
-              ∙ ap (λ n. op-bytes code (record { process = h .process; act = a }) ++ drop (at + size-by n) bytes) count
+                ∙ ap (λ n. op-bytes code (record { process = h .process; act = a }) ++ drop (at + size-by n) bytes) count;
           }
 
       operation-back : (at end : ℕ) (o : Op V) → end ≤ length bytes → operation-answer decode bytes end at ≡ Ok o → Operated code at end o
@@ -168,7 +170,7 @@ module _ (bytes : List ℕ) where
           let d = head-back at end h (s .first-is) in
           let t = begun (action-by decode bytes at (h .kind) (h .count)) (λ a. Ok (record { process = h .process; act = a })) o (s .rest-is) in
           subst (Operated code at end) (ok-same _ o (t .rest-is))
-            (made at end h (t .value) l d (action-back at (h .kind) (h .count) (t .value) (omega (arith, d .inside)) (d .counts) (d .new) (d .expected) (t .first-is)))
+          (made at end h (t .value) l d (action-back at (h .kind) (h .count) (t .value) (omega (arith, d .inside)) (d .counts) (d .new) (d .expected) (t .first-is)))
 
       listed-none : (end left at : ℕ) (ops : List (Op V)) → at ≤ end → leb end at ≡ true → _≡_ {A = Result (List (Op V)) SheetFault} (Ok []) (Ok ops) → Listed code end left at ops
       unfolding operations-end
@@ -177,8 +179,8 @@ module _ (bytes : List ℕ) where
           subst (Listed code end left at) (ok-same [] ops e) (record { laid = ap Ok same; stands = nothing bytes at end (sym same) })
 
       listed-more : (end left at : ℕ) (ops : List (Op V)) → end ≤ length bytes
-        → ((x : ℕ) (os : List (Op V)) → x ≤ end → operations-answer decode bytes end left x ≡ Ok os → Listed code end left x os)
-        → followed (operation-answer decode bytes end at) (operations-answer decode bytes end left (at + size-by (getD bytes (at + 2) 0))) ≡ Ok ops → Listed code end (suc left) at ops
+          → ((x : ℕ) (os : List (Op V)) → x ≤ end → operations-answer decode bytes end left x ≡ Ok os → Listed code end left x os)
+          → followed (operation-answer decode bytes end at) (operations-answer decode bytes end left (at + size-by (getD bytes (at + 2) 0))) ≡ Ok ops → Listed code end (suc left) at ops
       unfolding operations-end
       listed-more end left at ops l ih e =
           let s = split (operation-answer decode bytes end at) (operations-answer decode bytes end left (at + size-by (getD bytes (at + 2) 0))) ops e in
@@ -187,7 +189,7 @@ module _ (bytes : List ℕ) where
           let more = ih (at + size-by n) (s .others) (d .inside) (ap (λ x. operations-answer decode bytes end left (at + size-by x)) (sym (d .count-byte)) ∙ s .others-are) in
           subst (Listed code end (suc left) at) (sym (s .whole)) (record {
             laid = pass (counted (act-kind (s .first .act)) n) (fault WrongOperation at) (operations-end (at + size-by n) left (s .others)) _ (d .counts) (more .laid);
-            stands = join bytes at (at + size-by n) end (op-bytes code (s .first)) (joined (op-bytes code) (s .others)) (d .stands) (more .stands)
+            stands = join bytes at (at + size-by n) end (op-bytes code (s .first)) (joined (op-bytes code) (s .others)) (d .stands) (more .stands);
           })
 
       pub operations-back : (end left at : ℕ) (ops : List (Op V)) → at ≤ end → end ≤ length bytes → operations-answer decode bytes end left at ≡ Ok ops → Listed code end left at ops
@@ -198,6 +200,6 @@ module _ (bytes : List ℕ) where
       operations-back end (suc left) at ops h l e =
           let rest : Result (List (Op V)) SheetFault = followed (operation-answer decode bytes end at) (operations-answer decode bytes end left (at + size-by (getD bytes (at + 2) 0))) in
           ⊎-elim
-            (λ t. listed-none end (suc left) at ops h t (sym (cond-true (leb end at) (Ok []) rest t) ∙ e))
-            (λ f. listed-more end left at ops l (λ x os k d. operations-back end left x os k l d) (sym (cond-false (leb end at) (Ok []) rest f) ∙ e))
-            (cases-bool (leb end at))
+          (λ t. listed-none end (suc left) at ops h t (sym (cond-true (leb end at) (Ok []) rest t) ∙ e))
+          (λ f. listed-more end left at ops l (λ x os k d. operations-back end left x os k l d) (sym (cond-false (leb end at) (Ok []) rest f) ∙ e))
+          (cases-bool (leb end at))

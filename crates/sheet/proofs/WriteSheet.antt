@@ -57,35 +57,37 @@ module _ (bytes : List ℕ) where
       let k = passed (eqb (field bytes 12 4) (24 + 8 * field bytes 2 2) && leb (field bytes 12 4) (length bytes)) _ _ h (j .1) in
       let l = passed (eqb (field bytes 16 4 + field bytes 6 2) (length bytes) && leb (field bytes 12 4) (field bytes 16 4)) _ _ h (k .1) in
       let o = and-parts (eqb (field bytes 12 4) (24 + 8 * field bytes 2 2)) (leb (field bytes 12 4) (length bytes)) (k .0) in
-      let s = and-parts (eqb (field bytes 16 4 + field bytes 6 2) (length bytes)) (leb (field bytes 12 4) (field bytes 16 4)) (l .0) in
-      (record {
-        long = leb-true 24 (length bytes) (a .0);
-        length-field = eqb-true (field bytes 20 4) (length bytes) (b .0);
-        version = eqb-true (getD bytes 0 0) 1 (c .0);
-        kind = eqb-true (getD bytes 1 0) number (d .0);
-        locations = within-true 1 256 (field bytes 2 2) (f .0);
-        processes = within-true 1 32 (field bytes 4 2) (i .0);
-        values-place = eqb-true (field bytes 8 4) 24 (j .0);
-        operations-place = eqb-true (field bytes 12 4) (24 + 8 * field bytes 2 2) (o .0);
-        script-place = eqb-true (field bytes 16 4 + field bytes 6 2) (length bytes) (s .0);
-        in-order = leb-true (field bytes 12 4) (field bytes 16 4) (s .1)
-      }, ok-same _ h (l .1))
+      let s = and-parts (eqb (field bytes 16 4 + field bytes 6 2) (length bytes)) (leb (field bytes 12 4) (field bytes 16 4)) (l .0) in (
+        record {
+          long = leb-true 24 (length bytes) (a .0);
+          length-field = eqb-true (field bytes 20 4) (length bytes) (b .0);
+          version = eqb-true (getD bytes 0 0) 1 (c .0);
+          kind = eqb-true (getD bytes 1 0) number (d .0);
+          locations = within-true 1 256 (field bytes 2 2) (f .0);
+          processes = within-true 1 32 (field bytes 4 2) (i .0);
+          values-place = eqb-true (field bytes 8 4) 24 (j .0);
+          operations-place = eqb-true (field bytes 12 4) (24 + 8 * field bytes 2 2) (o .0);
+          script-place = eqb-true (field bytes 16 4 + field bytes 6 2) (length bytes) (s .0);
+          in-order = leb-true (field bytes 12 4) (field bytes 16 4) (s .1);
+        },
+        ok-same _ h (l .1),
+      )
 
   -- the first 24 bytes, by the fields
   front : List ℕ
   front = getD bytes 0 0 ∷ getD bytes 1 0 ∷ (bytes-of 2 (field bytes 2 2) ++ (bytes-of 2 (field bytes 4 2) ++ (bytes-of 2 (field bytes 6 2)
-    ++ (bytes-of 4 (field bytes 8 4) ++ (bytes-of 4 (field bytes 12 4) ++ (bytes-of 4 (field bytes 16 4) ++ bytes-of 4 (field bytes 20 4)))))))
+      ++ (bytes-of 4 (field bytes 8 4) ++ (bytes-of 4 (field bytes 12 4) ++ (bytes-of 4 (field bytes 16 4) ++ bytes-of 4 (field bytes 20 4)))))))
 
   front-back : AllBelow 256 bytes → 24 ≤ length bytes → bytes ≡ front ++ drop 24 bytes
   unfolding front
   front-back all h =
       let fields = join bytes 2 4 24 _ _ (field-back bytes 2 2 all (omega arith)) (join bytes 4 6 24 _ _ (field-back bytes 4 2 all (omega arith)) (join bytes 6 8 24 _ _ (field-back bytes 6 2 all (omega arith))
-            (join bytes 8 12 24 _ _ (field-back bytes 8 4 all (omega arith)) (join bytes 12 16 24 _ _ (field-back bytes 12 4 all (omega arith)) (join bytes 16 20 24 _ _ (field-back bytes 16 4 all (omega arith)) (field-back bytes 20 4 all (omega arith))))))) in
+      (join bytes 8 12 24 _ _ (field-back bytes 8 4 all (omega arith)) (join bytes 12 16 24 _ _ (field-back bytes 12 4 all (omega arith)) (join bytes 16 20 24 _ _ (field-back bytes 16 4 all (omega arith)) (field-back bytes 20 4 all (omega arith))))))) in
       drop-more bytes 0 0 (omega arith) ∙ ap (λ l. getD bytes 0 0 ∷ l) (drop-more bytes 1 0 (omega arith) ∙ ap (λ l. getD bytes 1 0 ∷ l) fields)
 
   module _ {V : Type 0} (code : V → ℕ) (number : ℕ) where
     front-is : (p : Parts V) → Headed number → length (p .initial) ≡ field bytes 2 2 → p .processes ≡ field bytes 4 2 → length (p .script) ≡ field bytes 6 2 → operations-at p ≡ field bytes 12 4 → script-at p ≡ field bytes 16 4 → total p ≡ field bytes 20 4
-      → header-bytes code number p ≡ front
+        → header-bytes code number p ≡ front
     unfolding header-bytes front
     front-is p d l q n o s t i = sym (d .version) i ∷ sym (d .kind) i ∷ (bytes-of 2 (l i) ++ (bytes-of 2 (q i) ++ (bytes-of 2 (n i) ++ (bytes-of 4 (sym (d .values-place) i) ++ (bytes-of 4 (o i) ++ (bytes-of 4 (s i) ++ bytes-of 4 (t i)))))))
 
@@ -113,7 +115,7 @@ module _ (bytes : List ℕ) where
             processes = refl;
             operations = operations-back bytes all code decode kept (field bytes 16 4) 4096 (field bytes 12 4) (os .value) (d .in-order) (omega (arith, d .script-place)) (os .first-is);
             script = script-back bytes (field bytes 16 4) (field bytes 6 2) (is .value) (omega (arith, d .script-place)) (is .first-is);
-            begins = eqb-true (starts (is .value)) (length (os .value)) (m .0)
+            begins = eqb-true (starts (is .value)) (length (os .value)) (m .0);
           })
 
       module _ (p : Parts V) (d : Headed number) (q : Parted p) where
@@ -133,7 +135,7 @@ module _ (bytes : List ℕ) where
           items = omega (arith, q .script .count, field-fits bytes 6 2 all (omega (arith, d .long)));
           operations = ap (λ k. operations-end k 4096 (p .operations)) operations-place ∙ q .operations .laid ∙ ap Ok (sym script-place);
           script = ap (λ k. script-end k (p .script)) script-place ∙ q .script .laid ∙ ap Ok (d .script-place ∙ sym length-is);
-          begins = q .begins
+          begins = q .begins;
         }
 
         same-bytes : sheet-bytes code number p ≡ bytes
@@ -143,7 +145,7 @@ module _ (bytes : List ℕ) where
             let os : List ℕ = joined (op-bytes code) (p .operations) in
             let is : List ℕ = map item-byte (p .script) in
             let end : drop (field bytes 16 4) bytes ≡ is =
-                  q .script .stands ∙ ap (λ l. is ++ l) (drop-all (field bytes 16 4 + field bytes 6 2) bytes (omega (arith, d .script-place))) ∙ append-nil is in
+            q .script .stands ∙ ap (λ l. is ++ l) (drop-all (field bytes 16 4 + field bytes 6 2) bytes (omega (arith, d .script-place))) ∙ append-nil is in
             let middle : drop (field bytes 12 4) bytes ≡ os ++ is = q .operations .stands ∙ ap (λ l. os ++ l) end in
             let body : drop 24 bytes ≡ vs ++ (os ++ is) = q .values ∙ ap (λ l. vs ++ l) (ap (λ k. drop k bytes) (sym (d .operations-place)) ∙ middle) in
             let head = front-is p d (q .locations) (q .processes) (q .script .count) operations-place script-place (length-is ∙ sym (d .length-field)) in

@@ -86,7 +86,7 @@ module _ {V : Type 0} (code : V → ℕ) where
   -- version 1, the kind number, three counts, three offsets, the total length
   unfoldable pub header-bytes : ℕ → Parts V → List ℕ
   header-bytes number p = 1 ∷ number ∷ (bytes-of 2 (length (p .initial)) ++ (bytes-of 2 (p .processes) ++ (bytes-of 2 (length (p .script))
-    ++ (bytes-of 4 24 ++ (bytes-of 4 (operations-at p) ++ (bytes-of 4 (script-at p) ++ bytes-of 4 (total p)))))))
+      ++ (bytes-of 4 24 ++ (bytes-of 4 (operations-at p) ++ (bytes-of 4 (script-at p) ++ bytes-of 4 (total p)))))))
 
   unfoldable pub sheet-bytes : ℕ → Parts V → List ℕ
   sheet-bytes number p = header-bytes number p ++ (joined value-bytes (p .initial) ++ (joined op-bytes (p .operations) ++ map item-byte (p .script)))

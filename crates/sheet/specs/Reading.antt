@@ -48,21 +48,30 @@ pub record Placed (long : ℕ) (h : Header) : Type 0 where
 -- lies below the one before, is refused at its own byte.
 abbrev pub header-by : RawHeader → ℕ → ℕ → Result Header SheetFault
 header-by raw long number =
-  require (eqb (raw .total) long) (fault WrongLength long)
-  (require (eqb (raw .version) 1) (fault WrongHeader 0)
-  (require (eqb (raw .kind) number) (fault WrongHeader 1)
-  (require (within 1 256 (raw .locations)) (fault WrongHeader 2)
-  (require (within 1 32 (raw .processes)) (fault WrongHeader 4)
-  (require (eqb (raw .values) 24) (fault WrongOffset 8)
-  (require (eqb (raw .operations) (24 + 8 * raw .locations) && leb (raw .operations) long) (fault WrongOffset 12)
-  (require (eqb (raw .script + raw .items) long && leb (raw .operations) (raw .script)) (fault WrongOffset 16)
-  (Ok (record { locations = raw .locations; processes = raw .processes; items = raw .items; operations = raw .operations; script = raw .script })))))))))
+    require (eqb (raw .total) long) (fault WrongLength long)
+    (require (eqb (raw .version) 1) (fault WrongHeader 0)
+    (require (eqb (raw .kind) number) (fault WrongHeader 1)
+    (require (within 1 256 (raw .locations)) (fault WrongHeader 2)
+    (require (within 1 32 (raw .processes)) (fault WrongHeader 4)
+    (require (eqb (raw .values) 24) (fault WrongOffset 8)
+    (require (eqb (raw .operations) (24 + 8 * raw .locations) && leb (raw .operations) long) (fault WrongOffset 12)
+    (require (eqb (raw .script + raw .items) long && leb (raw .operations) (raw .script)) (fault WrongOffset 16)
+    (Ok (record { locations = raw .locations; processes = raw .processes; items = raw .items; operations = raw .operations; script = raw .script })))))))))
 
 module _ (bytes : List ℕ) where
   -- where the fields of a header stand
   abbrev pub header-fields : RawHeader
-  header-fields = record { version = getD bytes 0 0; kind = getD bytes 1 0; locations = field bytes 2 2; processes = field bytes 4 2; items = field bytes 6 2;
-    values = field bytes 8 4; operations = field bytes 12 4; script = field bytes 16 4; total = field bytes 20 4 }
+  header-fields = record {
+    version = getD bytes 0 0;
+    kind = getD bytes 1 0;
+    locations = field bytes 2 2;
+    processes = field bytes 4 2;
+    items = field bytes 6 2;
+    values = field bytes 8 4;
+    operations = field bytes 12 4;
+    script = field bytes 16 4;
+    total = field bytes 20 4;
+  }
 
   -- 20 for a sheet that is shorter than its header
   unfoldable pub header-answer : ℕ → Result Header SheetFault
@@ -82,15 +91,15 @@ module _ (bytes : List ℕ) where
   -- the count is not the kind's, the zero byte or an unused code is not zero, or it runs past `end`.
   abbrev pub head-fits : ℕ → ℕ → OperationKind → Bool
   head-fits at end kind = counted kind (getD bytes (at + 2) 0)
-    && (eqb (getD bytes (at + 3) 0) 0
-    && (leb (at + size-by (getD bytes (at + 2) 0)) end
-    && ((takes-new kind || eqb (field bytes (at + 4) 8) 0)
-    && (takes-expected kind || unused (at + 12) (getD bytes (at + 2) 0)))))
+      && (eqb (getD bytes (at + 3) 0) 0
+      && (leb (at + size-by (getD bytes (at + 2) 0)) end
+      && ((takes-new kind || eqb (field bytes (at + 4) 8) 0)
+      && (takes-expected kind || unused (at + 12) (getD bytes (at + 2) 0)))))
 
   abbrev pub head-by : ℕ → ℕ → Option OperationKind → Result OperationHead SheetFault
   head-by at end None = Err (fault WrongOperation at)
   head-by at end (Some kind) = require (head-fits at end kind) (fault WrongOperation at)
-    (Ok (record { kind = kind; process = getD bytes (at + 1) 0; count = getD bytes (at + 2) 0 }))
+      (Ok (record { kind = kind; process = getD bytes (at + 1) 0; count = getD bytes (at + 2) 0 }))
 
   unfoldable pub head-answer : ℕ → ℕ → Result OperationHead SheetFault
   head-answer at end = require (leb (at + 12) end) (fault WrongOperation at) (head-by at end (kind-of (getD bytes at 0)))
@@ -139,19 +148,19 @@ module _ {V : Type 0} (decode : ℕ → Option V) (bytes : List ℕ) where
   unfoldable pub operations-answer : ℕ → ℕ → ℕ → Result (List (Op V)) SheetFault
   operations-answer end zero at = require (leb end at) (fault WrongOperation at) (Ok [])
   operations-answer end (suc left) at = cond (leb end at) (Ok [])
-    (followed (operation-answer end at) (operations-answer end left (at + size-by (getD bytes (at + 2) 0))))
+      (followed (operation-answer end at) (operations-answer end left (at + size-by (getD bytes (at + 2) 0))))
 
   -- the script has one start for each operation: else 25 at the total
   abbrev pub joined-answer : Header → List V → List (Op V) → List ScriptItem → Result (Parts V) SheetFault
   joined-answer h values ops items = require (eqb (starts items) (length ops)) (fault WrongScript (length bytes))
-    (Ok (record { initial = values; processes = h .processes; operations = ops; script = items }))
+      (Ok (record { initial = values; processes = h .processes; operations = ops; script = items }))
 
   unfoldable pub body-answer : Header → Result (Parts V) SheetFault
   body-answer h =
-    then (values-answer 24 (h .locations)) (λ values.
-    then (operations-answer (h .script) 4096 (h .operations)) (λ ops.
-    then (script-answer bytes (h .script) (h .items)) (λ items.
-    joined-answer h values ops items)))
+      then (values-answer 24 (h .locations)) (λ values.
+      then (operations-answer (h .script) 4096 (h .operations)) (λ ops.
+      then (script-answer bytes (h .script) (h .items)) (λ items.
+      joined-answer h values ops items)))
 
   unfoldable pub read-answer : ℕ → Result (Parts V) SheetFault
   read-answer number = then (header-answer bytes number) body-answer

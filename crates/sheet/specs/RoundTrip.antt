@@ -20,7 +20,7 @@ module _ {V : Type 0} (code : V → ℕ) (decode : ℕ → Option V) (number : �
   -- what writing accepts, reading returns
   abbrev pub WriteThenRead : Parts V → List ℕ → Type 0
   WriteThenRead p out = (n : ℕ) → AllFitting (p .operations) → write-answer p (length out) ≡ Ok n
-    → read-answer decode (take n (write-after p code number out)) number ≡ Ok p
+      → read-answer decode (take n (write-after p code number out)) number ≡ Ok p
 
   -- what reading accepts, writing gives back byte for byte
   abbrev pub ReadThenWrite : List ℕ → Type 0

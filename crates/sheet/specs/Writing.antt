@@ -24,7 +24,7 @@ unfoldable pub operations-end : {V : Type 0} → ℕ → ℕ → List (Op V) →
 operations-end at left [] = Ok at
 operations-end at zero (o ∷ rest) = Err (fault WrongOperation at)
 operations-end at (suc left) (o ∷ rest) = require (counted (act-kind (o .act)) (act-count (o .act))) (fault WrongOperation at)
-  (operations-end (at + size-by (act-count (o .act))) left rest)
+    (operations-end (at + size-by (act-count (o .act))) left rest)
 
 -- a step of a process from 32 on has no byte
 abbrev pub writable : ScriptItem → Bool
@@ -40,12 +40,12 @@ module _ {V : Type 0} (p : Parts V) where
   -- the whole length, or the refusal: 21 for L, P or N, 23 for an operation, 25 for the script
   unfoldable pub layout-answer : Result ℕ SheetFault
   layout-answer =
-    require (within 1 256 (length (p .initial))) (fault WrongHeader 2)
-    (require (within 1 32 (p .processes)) (fault WrongHeader 4)
-    (require (leb (length (p .script)) 65535) (fault WrongHeader 6)
-    (then (operations-end (operations-at p) 4096 (p .operations)) (λ script-at.
-    then (script-end script-at (p .script)) (λ total.
-    require (eqb (starts (p .script)) (length (p .operations))) (fault WrongScript total) (Ok total))))))
+      require (within 1 256 (length (p .initial))) (fault WrongHeader 2)
+      (require (within 1 32 (p .processes)) (fault WrongHeader 4)
+      (require (leb (length (p .script)) 65535) (fault WrongHeader 6)
+      (then (operations-end (operations-at p) 4096 (p .operations)) (λ script-at.
+      then (script-end script-at (p .script)) (λ total.
+      require (eqb (starts (p .script)) (length (p .operations))) (fault WrongScript total) (Ok total))))))
 
   -- 26 for an output that is too short, at the length that is needed
   unfoldable pub write-answer : ℕ → Result ℕ SheetFault

@@ -4,9 +4,9 @@ ghost use mathlib.Core.Path.{_≡_};
 ghost use Rattle.sheet.specs.Format.{act-kind, act-count, new-code, item-byte};
 ghost use Rattle.sheet.specs.Parts.{act-of};
 ghost use Rattle.sheet.specs.Writing.{writable};
-use operation::OperationKind;
 use crate::parts::Action;
 use crate::parts::ScriptItem;
+use operation::OperationKind;
 use value::ValueKind;
 
 impl<V: ValueKind> Action<V> {

@@ -1,7 +1,7 @@
 // Faults of the sheet layer: which refusal, and where.
 ghost use mathlib.Core.Path.{_≡_};
 ghost use Rattle.sheet.specs.declared.fault.ReadError.the-variants.{NoMemory, Fault};
-ghost use Rattle.sheet.specs.Faults.{refusal-number};
+ghost use Rattle.sheet.specs.Faults.{fault, refusal-number};
 use std::alloc::AllocError;
 use std::alloc::Global;
 use std::alloc::Refused;
@@ -26,6 +26,13 @@ pub struct SheetFault {
 }
 
 impl SheetFault {
+    // This refusal at this place.
+    pub fn new(refusal: SheetRefusal, place: usize) -> SheetFault
+        ensures { λ r. ⌜ r ≡ fault refusal place ⌝ }
+    {
+        SheetFault { refusal, place }
+    }
+
     // The layer that refused.
     pub fn layer(&self) -> u8
         ensures { λ r. ⌜ r ≡ 3 ⌝ }

@@ -40,7 +40,10 @@ fn read_operations<V: ValueKind>(
     let mut next = at;
     while next < end {
         if operations.len() == MOST_OPERATIONS {
-            return Err(ReadError::Fault(SheetFault { refusal: SheetRefusal::WrongOperation, place: next }));
+            return Err(ReadError::Fault(SheetFault {
+                refusal: SheetRefusal::WrongOperation,
+                place: next,
+            }));
         }
         let (operation, after) = read_operation(heap, bytes, next, end)?;
         operations.push(operation)?;
@@ -60,8 +63,16 @@ impl<V: ValueKind> Sheet<V> {
         let operations = read_operations(heap, bytes, header.operations, header.script)?;
         let script = read_script(heap, bytes, header.script, header.items as usize)?;
         if start_count(&script) != operations.len() {
-            return Err(ReadError::Fault(SheetFault { refusal: SheetRefusal::WrongScript, place: bytes.len() }));
+            return Err(ReadError::Fault(SheetFault {
+                refusal: SheetRefusal::WrongScript,
+                place: bytes.len(),
+            }));
         }
-        Ok(Sheet { initial, processes: header.processes, operations, script })
+        Ok(Sheet {
+            initial,
+            processes: header.processes,
+            operations,
+            script,
+        })
     }
 }

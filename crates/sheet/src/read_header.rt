@@ -42,30 +42,36 @@ fn judge_header(raw: &RawHeader, length: usize, kind_number: u8) -> Result<Heade
     let operations = raw.operations as usize;
     let script = raw.script as usize;
     if raw.total as usize != length {
-        return Err(SheetFault { refusal: SheetRefusal::WrongLength, place: length });
+        return Err(SheetFault::new(SheetRefusal::WrongLength, length));
     }
     if raw.version != 1 {
-        return Err(SheetFault { refusal: SheetRefusal::WrongHeader, place: 0 });
+        return Err(SheetFault::new(SheetRefusal::WrongHeader, 0));
     }
     if raw.kind != kind_number {
-        return Err(SheetFault { refusal: SheetRefusal::WrongHeader, place: 1 });
+        return Err(SheetFault::new(SheetRefusal::WrongHeader, 1));
     }
     if raw.locations < 1 || raw.locations > 256 {
-        return Err(SheetFault { refusal: SheetRefusal::WrongHeader, place: 2 });
+        return Err(SheetFault::new(SheetRefusal::WrongHeader, 2));
     }
     if raw.processes < 1 || raw.processes > 32 {
-        return Err(SheetFault { refusal: SheetRefusal::WrongHeader, place: 4 });
+        return Err(SheetFault::new(SheetRefusal::WrongHeader, 4));
     }
     if raw.values != 24 {
-        return Err(SheetFault { refusal: SheetRefusal::WrongOffset, place: 8 });
+        return Err(SheetFault::new(SheetRefusal::WrongOffset, 8));
     }
     if operations != 24 + 8 * raw.locations as usize || operations > length {
-        return Err(SheetFault { refusal: SheetRefusal::WrongOffset, place: 12 });
+        return Err(SheetFault::new(SheetRefusal::WrongOffset, 12));
     }
     if script + raw.items as usize != length || operations > script {
-        return Err(SheetFault { refusal: SheetRefusal::WrongOffset, place: 16 });
+        return Err(SheetFault::new(SheetRefusal::WrongOffset, 16));
     }
-    Ok(Header { locations: raw.locations, processes: raw.processes, items: raw.items, operations, script })
+    Ok(Header {
+        locations: raw.locations,
+        processes: raw.processes,
+        items: raw.items,
+        operations,
+        script,
+    })
 }
 
 // What the header says, or the refusal with which it is met, for a sheet of values of one kind.
@@ -75,6 +81,6 @@ pub fn read_header(bytes: &[u8], kind_number: u8) -> Result<Header, SheetFault>
 {
     match raw_header(bytes) {
         Some(raw) => judge_header(&raw, bytes.len(), kind_number),
-        None => Err(SheetFault { refusal: SheetRefusal::WrongLength, place: bytes.len() }),
+        None => Err(SheetFault::new(SheetRefusal::WrongLength, bytes.len())),
     }
 }

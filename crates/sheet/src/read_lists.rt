@@ -25,11 +25,19 @@ pub fn read_value<V: ValueKind>(bytes: &[u8], at: usize) -> Result<V, SheetFault
     requires { ⌜ at + 8 ≤ length (now bytes) ⌝ }
     ensures { λ r. ⌜ r ≡ value-answer decoded (now (bytes .entry)) at ⌝ }
 {
-    V::from_code(number_at(bytes, at, 8)).ok_or(SheetFault { refusal: SheetRefusal::WrongCode, place: at })
+    V::from_code(number_at(bytes, at, 8)).ok_or(SheetFault {
+        refusal: SheetRefusal::WrongCode,
+        place: at,
+    })
 }
 
 // So many values from `at` on.
-pub fn read_values<V: ValueKind>(heap: Global, bytes: &[u8], at: usize, count: usize) -> Result<Vec<V>, ReadError>
+pub fn read_values<V: ValueKind>(
+    heap: Global,
+    bytes: &[u8],
+    at: usize,
+    count: usize,
+) -> Result<Vec<V>, ReadError>
     requires { ⌜ at + 8 * count ≤ length (now bytes) ⌝ }
     ensures { λ r. ⌜ Reads (λ v. vec-items v) r (values-answer decoded (now (bytes .entry)) at count) ⌝ }
 {
@@ -70,7 +78,12 @@ pub fn read_operands<V: ValueKind>(
 }
 
 // The locations of so many operands from `at` on.
-pub fn read_locations(heap: Global, bytes: &[u8], at: usize, count: usize) -> Result<Vec<u16>, AllocError>
+pub fn read_locations(
+    heap: Global,
+    bytes: &[u8],
+    at: usize,
+    count: usize,
+) -> Result<Vec<u16>, AllocError>
     requires { ⌜ at + 10 * count ≤ length (now bytes) ⌝ }
     ensures { λ r. ⌜ made r (λ v. vec-items v ≡ locations-from (now (bytes .entry)) at count) ⌝ }
 {
@@ -89,12 +102,20 @@ pub fn read_item(bytes: &[u8], at: usize) -> Result<ScriptItem, SheetFault>
     match bytes[at] {
         255 => Ok(ScriptItem::Start),
         process if process < 32 => Ok(ScriptItem::Step(process)),
-        _ => Err(SheetFault { refusal: SheetRefusal::WrongScript, place: at }),
+        _ => Err(SheetFault {
+            refusal: SheetRefusal::WrongScript,
+            place: at,
+        }),
     }
 }
 
 // So many script items from `at` on.
-pub fn read_script(heap: Global, bytes: &[u8], at: usize, count: usize) -> Result<Vec<ScriptItem>, ReadError>
+pub fn read_script(
+    heap: Global,
+    bytes: &[u8],
+    at: usize,
+    count: usize,
+) -> Result<Vec<ScriptItem>, ReadError>
     requires { ⌜ at + count ≤ length (now bytes) ⌝ }
     ensures { λ r. ⌜ Reads (λ v. vec-items v) r (script-answer (now (bytes .entry)) at count) ⌝ }
 {

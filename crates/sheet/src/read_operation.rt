@@ -4,7 +4,6 @@ ghost use Prim.Native.Nat.{_+_, _*_, _≤_};
 ghost use lib.ListN.{length, getD};
 ghost use Rattle.std.specs.Vec.{made};
 ghost use Rattle.sheet.specs.Faults.{Reads};
-
 ghost use Rattle.sheet.specs.Format.{size-by};
 ghost use Rattle.sheet.specs.Parts.{act-of, op-of};
 ghost use Rattle.sheet.specs.Reading.{unused, head-fits, head-answer, action-by, operation-answer};
@@ -16,12 +15,12 @@ use crate::fault::ReadErrorFromFault;
 use crate::fault::SheetFault;
 use crate::fault::SheetRefusal;
 use crate::head::OperationHead;
-use operation::OperationKind;
 use crate::parts::Action;
 use crate::parts::Operation;
 use crate::read_lists::read_locations;
 use crate::read_lists::read_operands;
 use crate::read_lists::read_value;
+use operation::OperationKind;
 use std::alloc::Global;
 use value::ValueKind;
 
@@ -58,20 +57,32 @@ fn read_head(bytes: &[u8], at: usize, end: usize) -> Result<OperationHead, Sheet
     requires inside { ⌜ end ≤ length (now bytes) ⌝ }
     ensures { λ r. ⌜ r ≡ head-answer (now (bytes .entry)) at end ⌝ }
 {
-    let wrong = SheetFault { refusal: SheetRefusal::WrongOperation, place: at };
+    let wrong = SheetFault {
+        refusal: SheetRefusal::WrongOperation,
+        place: at,
+    };
     if end - at < 12 {
         return Err(wrong);
     }
     match OperationKind::from_number(bytes[at]) {
         Some(kind) if head_fits(bytes, at, end, kind) => {
-            Ok(OperationHead { kind, process: bytes[at + 1], count: bytes[at + 2] })
+            Ok(OperationHead {
+                kind,
+                process: bytes[at + 1],
+                count: bytes[at + 2],
+            })
         }
         _ => Err(wrong),
     }
 }
 
 // What the operation that starts at `at` is to do, as its head says.
-fn read_action<V: ValueKind>(heap: Global, bytes: &[u8], at: usize, head: OperationHead) -> Result<Action<V>, ReadError>
+fn read_action<V: ValueKind>(
+    heap: Global,
+    bytes: &[u8],
+    at: usize,
+    head: OperationHead,
+) -> Result<Action<V>, ReadError>
     requires some { ⌜ 1 ≤ head .count ⌝ }
     requires inside { ⌜ at + size-by (head .count) ≤ length (now bytes) ⌝ }
     ensures { λ r. ⌜ Reads act-of r (action-by decoded (now (bytes .entry)) at (head .kind) (head .count)) ⌝ }
@@ -82,7 +93,10 @@ fn read_action<V: ValueKind>(heap: Global, bytes: &[u8], at: usize, head: Operat
         OperationKind::Ll => Ok(Action::Ll(location_at(bytes, at + 12))),
         OperationKind::Sc => {
             let new = read_value(bytes, at + 4)?;
-            Ok(Action::Sc { location: location_at(bytes, at + 12), new })
+            Ok(Action::Sc {
+                location: location_at(bytes, at + 12),
+                new,
+            })
         }
         OperationKind::Snapshot => {
             let locations = read_locations(heap, bytes, at + 12, count)?;
@@ -110,5 +124,11 @@ pub fn read_operation<V: ValueKind>(
 {
     let head = read_head(bytes, at, end)?;
     let action = read_action(heap, bytes, at, head)?;
-    Ok((Operation { process: head.process, action }, at + 12 + 10 * head.count as usize))
+    Ok((
+        Operation {
+            process: head.process,
+            action,
+        },
+        at + 12 + 10 * head.count as usize,
+    ))
 }

@@ -15,7 +15,12 @@ use value::NumberKind;
 use value::ValueKind;
 
 // A sheet of one location with one operation and this script.
-fn sheet_of(heap: Global, action: Action<Number>, processes: u16, item: ScriptItem) -> Result<Sheet<Number>, AllocError> {
+fn sheet_of(
+    heap: Global,
+    action: Action<Number>,
+    processes: u16,
+    item: ScriptItem,
+) -> Result<Sheet<Number>, AllocError> {
     let mut initial = Vec::new(heap);
     initial.push(Number { value: 5 })?;
     let mut operations = Vec::new(heap);
@@ -23,7 +28,12 @@ fn sheet_of(heap: Global, action: Action<Number>, processes: u16, item: ScriptIt
     let mut script = Vec::new(heap);
     script.push(ScriptItem::Start)?;
     script.push(item)?;
-    Ok(Sheet { initial, processes, operations, script })
+    Ok(Sheet {
+        initial,
+        processes,
+        operations,
+        script,
+    })
 }
 
 // A SNAPSHOT of so many locations.
@@ -46,18 +56,24 @@ fn written(sheet: &Sheet<Number>, out: &mut [u8]) -> (u8, usize) {
 #[test]
 fn bytes_come_back(rt: LibcRuntime) -> Result<(), Fail> {
     let mut out = [170; 100];
-    let numbers = Sheet::<Number>::read(rt.alloc(), &NUMBERS).ok().ok_or("refused")?;
+    let numbers = Sheet::<Number>::read(rt.alloc(), &NUMBERS)
+        .ok()
+        .ok_or("refused")?;
     check_eq(written(&numbers, &mut out), (0, 82))?;
     check(out[0..82] == NUMBERS[0..82])?;
     check_eq(out[82], 170)?;
-    let links = Sheet::<Link>::read(rt.alloc(), &LINKS).ok().ok_or("refused")?;
+    let links = Sheet::<Link>::read(rt.alloc(), &LINKS)
+        .ok()
+        .ok_or("refused")?;
     check_eq(links.write(&mut out).ok(), Some(79))?;
     check(out[0..79] == LINKS[0..79])
 }
 
 #[test]
 fn short_output_is_untouched(rt: LibcRuntime) -> Result<(), Fail> {
-    let numbers = Sheet::<Number>::read(rt.alloc(), &NUMBERS).ok().ok_or("refused")?;
+    let numbers = Sheet::<Number>::read(rt.alloc(), &NUMBERS)
+        .ok()
+        .ok_or("refused")?;
     let mut out = [170; 81];
     check_eq(written(&numbers, &mut out), (26, 82))?;
     check(out == [170; 81])
@@ -68,15 +84,51 @@ fn counts_and_steps(rt: LibcRuntime) -> Result<(), Fail> {
     let heap = rt.alloc();
     let mut out = [0; 300];
     let step = ScriptItem::Step(31);
-    check_eq(written(&sheet_of(heap, snapshot(heap, 16)?, 32, step)?, &mut out), (0, 206))?;
-    check_eq(written(&sheet_of(heap, snapshot(heap, 17)?, 32, step)?, &mut out), (23, 32))?;
-    check_eq(written(&sheet_of(heap, snapshot(heap, 0)?, 32, step)?, &mut out), (23, 32))?;
-    check_eq(written(&sheet_of(heap, snapshot(heap, 257)?, 32, step)?, &mut out), (23, 32))?;
-    check_eq(written(&sheet_of(heap, Action::Read(0), 0, step)?, &mut out), (21, 4))?;
-    check_eq(written(&sheet_of(heap, Action::Ll(0), 33, step)?, &mut out), (21, 4))?;
-    check_eq(written(&sheet_of(heap, Action::Read(0), 1, ScriptItem::Step(32))?, &mut out), (25, 55))?;
-    check_eq(written(&sheet_of(heap, Action::Read(0), 1, ScriptItem::Step(255))?, &mut out), (25, 55))?;
-    check_eq(written(&sheet_of(heap, Action::Read(0), 1, ScriptItem::Start)?, &mut out), (25, 56))
+    check_eq(
+        written(&sheet_of(heap, snapshot(heap, 16)?, 32, step)?, &mut out),
+        (0, 206),
+    )?;
+    check_eq(
+        written(&sheet_of(heap, snapshot(heap, 17)?, 32, step)?, &mut out),
+        (23, 32),
+    )?;
+    check_eq(
+        written(&sheet_of(heap, snapshot(heap, 0)?, 32, step)?, &mut out),
+        (23, 32),
+    )?;
+    check_eq(
+        written(&sheet_of(heap, snapshot(heap, 257)?, 32, step)?, &mut out),
+        (23, 32),
+    )?;
+    check_eq(
+        written(&sheet_of(heap, Action::Read(0), 0, step)?, &mut out),
+        (21, 4),
+    )?;
+    check_eq(
+        written(&sheet_of(heap, Action::Ll(0), 33, step)?, &mut out),
+        (21, 4),
+    )?;
+    check_eq(
+        written(
+            &sheet_of(heap, Action::Read(0), 1, ScriptItem::Step(32))?,
+            &mut out,
+        ),
+        (25, 55),
+    )?;
+    check_eq(
+        written(
+            &sheet_of(heap, Action::Read(0), 1, ScriptItem::Step(255))?,
+            &mut out,
+        ),
+        (25, 55),
+    )?;
+    check_eq(
+        written(
+            &sheet_of(heap, Action::Read(0), 1, ScriptItem::Start)?,
+            &mut out,
+        ),
+        (25, 56),
+    )
 }
 
 // No location and 257 of them; 65,535 script items and one more; 4,096 operations and one more.
@@ -93,11 +145,21 @@ fn many_of_each(rt: LibcRuntime) -> Result<(), Fail> {
     check_eq(written(&sheet, &mut out), (21, 6))?;
     sheet.script.truncate(1);
     for _ in 0..4_095 {
-        sheet.operations.push(Operation { process: 0, action: Action::Read(0) })?;
+        sheet
+            .operations
+            .push(Operation {
+                process: 0,
+                action: Action::Read(0),
+            })?;
         sheet.script.push(ScriptItem::Start)?;
     }
     check_eq(written(&sheet, &mut out), (0, 94_240))?;
-    sheet.operations.push(Operation { process: 0, action: Action::Read(0) })?;
+    sheet
+        .operations
+        .push(Operation {
+            process: 0,
+            action: Action::Read(0),
+        })?;
     sheet.script.push(ScriptItem::Start)?;
     check_eq(written(&sheet, &mut out), (23, 90_144))?;
     for _ in 0..255 {

@@ -52,7 +52,9 @@ nothing-at = elim (decLt 0 1) as (λ d. link-by 0 d ≡ Some Nothing) [ yes x �
 
 pub link-past : (c : ℕ) → 131071 < c → link-of c ≡ None
 link-past c h = elim (decLt c 1) as (λ d. link-by c d ≡ None) [
-    yes x ↦ absurd (omega arith)
+  | yes x ↦ absurd (omega arith)
   | no x ↦ elim (decLt 0 (c / 2)) as (λ d. node-by c d (decLt (c / 2) 65536) ≡ None) [
-      no y ↦ refl
-    | yes y ↦ elim (decLt (c / 2) 65536) as (λ e. node-by c (yes y) e ≡ None) [ no z ↦ refl | yes z ↦ absurd (omega arith) ] ] ]
+    | no y ↦ refl
+    | yes y ↦ elim (decLt (c / 2) 65536) as (λ e. node-by c (yes y) e ≡ None) [ no z ↦ refl | yes z ↦ absurd (omega arith) ]
+  ]
+]

@@ -5,6 +5,7 @@ mod link;
 mod link_kind;
 mod number;
 mod number_kind;
+
 pub use kind::ValueKind;
 pub use link::Link;
 pub use link::Node;

@@ -6,6 +6,7 @@ use crate::link::Node;
 
 pub impl ValueKind for Link as LinkKind {
     const KIND: u8 = 2;
+
     const GREATEST_CODE: u64 = 131_071;
 
     ghost coded = { link-code };
@@ -38,7 +39,10 @@ pub impl ValueKind for Link as LinkKind {
         if code == 1 || code > Self::GREATEST_CODE {
             return None;
         }
-        Some(Link::To(Node { number: (code / 2) as u16, deleted: code % 2 == 1 }))
+        Some(Link::To(Node {
+            number: (code / 2) as u16,
+            deleted: code % 2 == 1,
+        }))
     }
 
     fn same(&self, other: &Link) -> bool {

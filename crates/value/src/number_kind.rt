@@ -7,6 +7,7 @@ use crate::number::Number;
 
 pub impl ValueKind for Number as NumberKind {
     const KIND: u8 = 1;
+
     const GREATEST_CODE: u64 = 0x7fff_ffff_ffff_ffff;
 
     ghost coded = { λ v. v .value };

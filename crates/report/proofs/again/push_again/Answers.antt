@@ -18,7 +18,9 @@ pub returns : need.returns
 unfolding again-line
 returns c =
     let said : c .if-again .verdict .now ≡ verdict (c .args .again .same) =
-      elim (c .if-again .came) [ then-again w ↦ ap (λ (r : RefT (List ℕ)). r .now) (w .verdict-is) ∙ sym (ap verdict (w .if-again .taken))
-        | else-again w ↦ ap (λ (r : RefT (List ℕ)). r .now) (w .verdict-is) ∙ sym (ap verdict (w .if-again .left)) ] in
+    elim (c .if-again .came) [
+      | then-again w ↦ ap (λ (r : RefT (List ℕ)). r .now) (w .verdict-is) ∙ sym (ap verdict (w .if-again .taken))
+      | else-again w ↦ ap (λ (r : RefT (List ℕ)). r .now) (w .verdict-is) ∙ sym (ap verdict (w .if-again .left))
+    ] in
     subst (λ (t : List ℕ). Adds (c .writeln .result) (string-bytes (c .args .out .now)) (codes "written again, " ++ (decimal (c .args .again .long) ++ (codes " bytes: " ++ (t ++ codes "\n")))) (string-bytes (c .writeln .last .self)))
     said (c .writeln .ensures .bytes)

@@ -21,11 +21,12 @@ loop-i-again c =
     let i = c .loop-i .i in
     let n = c .loop-i .started in
     let x = getD xs i Start in
-    let more = c .started-after-started .result in
-    (omega (arith, started-le x n, c .started-after-started .ensures, c .loop-i .inv .0),
-    row-more _ (string-bytes (c .loop-i .out)) _ (λ zs. turns i n zs) (λ zs. turns (i + 1) more zs) xs i Start (item-line (i + 1) n x)
-    (c .loop-i-test .taken) (ap (λ (k : ℕ). item-line (i + 1) n x ++ turns (i + 1) k (drop (i + 1) xs)) (sym (c .started-after-started .ensures)))
-    (c .loop-i .inv .1) (c .in-Continue-push-item .ensures tt))
+    let more = c .started-after-started .result in (
+      omega (arith, started-le x n, c .started-after-started .ensures, c .loop-i .inv .0),
+      row-more _ (string-bytes (c .loop-i .out)) _ (λ zs. turns i n zs) (λ zs. turns (i + 1) more zs) xs i Start (item-line (i + 1) n x)
+          (c .loop-i-test .taken) (ap (λ (k : ℕ). item-line (i + 1) n x ++ turns (i + 1) k (drop (i + 1) xs)) (sym (c .started-after-started .ensures)))
+          (c .loop-i .inv .1) (c .in-Continue-push-item .ensures tt),
+    )
 
 pub returns : need.returns
 returns c =

@@ -9,4 +9,4 @@ use Rattle.report.proofs.operations.push_operations.Given as given
 
 abbrev pub Inv-loop-i : given.InvT-loop-i
 Inv-loop-i g l = string-bytes (l .out) ++ numbered (operation-line (g .V·ValueKind .coded)) (l .i) (map op-of (drop (l .i) (l .operations)))
-  ≡ string-bytes (l .entry .out) ++ numbered (operation-line (g .V·ValueKind .coded)) 0 (map op-of (l .operations))
+    ≡ string-bytes (l .entry .out) ++ numbered (operation-line (g .V·ValueKind .coded)) 0 (map op-of (l .operations))

@@ -31,12 +31,12 @@ returns g c =
     let last = string-bytes (c .push-script .last .out) in
     let r = c .push-script .result in
     let counts : header-line (c .kind-number .result) (c .len .result) (sheet .processes) (c .len-2 .result) ≡ header =
-      ap (λ (k : ℕ). header-line k (c .len .result) (sheet .processes) (c .len-2 .result)) (c .kind-number .ensures)
-      ∙ ap (λ (n : ℕ). header-line kind n (sheet .processes) (c .len-2 .result)) (c .len .ensures ∙ sheet .initial .ok .0)
-      ∙ ap (λ (n : ℕ). header-line kind locations (sheet .processes) n) (c .len-2 .ensures ∙ sheet .script .ok .0) in
+    ap (λ (k : ℕ). header-line k (c .len .result) (sheet .processes) (c .len-2 .result)) (c .kind-number .ensures)
+    ∙ ap (λ (n : ℕ). header-line kind n (sheet .processes) (c .len-2 .result)) (c .len .ensures ∙ sheet .initial .ok .0)
+    ∙ ap (λ (n : ℕ). header-line kind locations (sheet .processes) n) (c .len-2 .ensures ∙ sheet .script .ok .0) in
     adds-after (string-bytes (c .args .out .now)) first last size (header ++ (values ++ (operations ++ script))) r (c .in-Continue-push-size .ensures tt)
     (adds-after first second last header (values ++ (operations ++ script)) r (c .in-Continue-push-header .ensures tt ∙ ap (λ (t : List ℕ). first ++ t) counts)
     (adds-after second third last values (operations ++ script) r (c .in-Continue-push-values .ensures tt ∙ ap (λ (vs : List (g .V .Denot)). second ++ values-text code vs) (c .deref .ensures .value))
     (adds-after third fourth last operations script r
-      (c .in-Continue-push-operations .ensures tt ∙ ap (λ (os : List (Operation (g .V .Denot))). third ++ operations-text code (map op-of os)) (c .deref-2 .ensures .value))
+    (c .in-Continue-push-operations .ensures tt ∙ ap (λ (os : List (Operation (g .V .Denot))). third ++ operations-text code (map op-of os)) (c .deref-2 .ensures .value))
     (subst (λ (xs : List ScriptItem). Adds r fourth (script-text xs) last) (c .deref-3 .ensures .value) (c .push-script .ensures)))))

@@ -28,9 +28,10 @@ loop-operation-again g c =
     let i = c .loop-operation .operation-index in
     let item = c .operation-item .result in
     let h : i < length (map op-of ops) = omega (arith, length-map ops op-of) in
-    let is = ap op-of (c .operation-item .is) ∙ sym (getD-map op-of ops i item (op-of item) (c .loop-operation-test .taken)) in
-    (left-more (c .loop-operation .inv .0) h is refl (c .put-operation-next .ensures .puts),
-     all-more (λ o. Fitting (o .act)) (map op-of ops) i (op-of item) h (c .loop-operation .inv .1) (subst (λ o. Fitting (o .act)) is (c .put-operation-next .ensures .fits)))
+    let is = ap op-of (c .operation-item .is) ∙ sym (getD-map op-of ops i item (op-of item) (c .loop-operation-test .taken)) in (
+      left-more (c .loop-operation .inv .0) h is refl (c .put-operation-next .ensures .puts),
+      all-more (λ o. Fitting (o .act)) (map op-of ops) i (op-of item) h (c .loop-operation .inv .1) (subst (λ o. Fitting (o .act)) is (c .put-operation-next .ensures .fits)),
+    )
 
 pub returns : need.returns
 returns g c =

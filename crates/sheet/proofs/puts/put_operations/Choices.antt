@@ -7,4 +7,4 @@ use Rattle.sheet.proofs.puts.put_operations.Given as given
 
 abbrev pub Inv-loop-operation : given.InvT-loop-operation
 Inv-loop-operation g l = Left (op-bytes (g .V·ValueKind .coded)) (map op-of (l .operations)) (l .entry .out) (l .at) (l .operation-index) (l .out) (l .next)
-  × AllFitting (take (l .operation-index) (map op-of (l .operations)))
+    × AllFitting (take (l .operation-index) (map op-of (l .operations)))

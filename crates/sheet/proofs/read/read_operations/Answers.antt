@@ -32,10 +32,12 @@ loop-next-again g c =
     let some : vec-len (c .loop-next .operations) < 4096 = let e = c .len .ensures in let b = c .loop-next .inv .1 in let l = c .if-len-eq-MOST-OPERATIONS .left in grind arith in
     let put = pushed (c .in-Continue-operation .operation ∷ []) refl (c .in-Continue-push .was tt) (c .push .ensures .items) in
     let long : vec-len (c .push .last .self) ≡ vec-len (c .loop-next .operations) + 1 = c .in-Continue-push .ensures tt .cases in
-    let read = c .in-Continue-operation .ensures tt in
-    (read .next .1, omega (arith, long, some),
-     gathered-more (g .V·ValueKind .decoded) (c .args .bytes .now) (c .args .end) 4096 (c .args .at) _ _ _ (c .loop-next .inv .2) some (c .loop-next-test .taken) _ _ _ _
-       (read .answer) (ap (map op-of) put ∙ map-push op-of (vec-items (c .loop-next .operations)) (c .in-Continue-operation .operation)) long (read .next .0))
+    let read = c .in-Continue-operation .ensures tt in (
+      read .next .1,
+      omega (arith, long, some),
+      gathered-more (g .V·ValueKind .decoded) (c .args .bytes .now) (c .args .end) 4096 (c .args .at) _ _ _ (c .loop-next .inv .2) some (c .loop-next-test .taken) _ _ _ _
+          (read .answer) (ap (map op-of) put ∙ map-push op-of (vec-items (c .loop-next .operations)) (c .in-Continue-operation .operation)) long (read .next .0),
+    )
 
 pub returns : need.returns
 returns g c = gathered-all (g .V·ValueKind .decoded) (c .args .bytes .now) (c .args .end) 4096 (c .args .at) _ _ _ (c .loop-next .inv .2) (c .loop-next-test .left)

@@ -15,6 +15,7 @@ returns c =
     let values = c .number-at .ensures .value ∙ field-rest bytes 8 0 4 in
     let operations = c .number-at-2 .ensures .value ∙ field-rest bytes 8 4 4 in
     let script = c .number-at-3 .ensures .value ∙ field-rest bytes 8 8 4 in
-    let total = c .number-at-4 .ensures .value ∙ field-rest bytes 8 12 4 in
-    (omega (arith, long, c .if-rest-lt16 .left),
-     λ i. record { version = getD bytes 0 0; kind = getD bytes 1 0; locations = locations i; processes = processes i; items = items i; values = values i; operations = operations i; script = script i; total = total i })
+    let total = c .number-at-4 .ensures .value ∙ field-rest bytes 8 12 4 in (
+      omega (arith, long, c .if-rest-lt16 .left),
+      λ i. record { version = getD bytes 0 0; kind = getD bytes 1 0; locations = locations i; processes = processes i; items = items i; values = values i; operations = operations i; script = script i; total = total i },
+    )

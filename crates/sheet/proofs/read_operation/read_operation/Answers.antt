@@ -27,8 +27,9 @@ returns-in-Break-action g c =
     let whole = ap (λ h. then h (action-answer (g .V·ValueKind .decoded) (c .args .bytes .now) (c .args .at))) read in
     record {
       answer = exit-error _ _ (c .from-residual-in-Break-action .result) (action-by (g .V·ValueKind .decoded) (c .args .bytes .now) (c .args .at) (head .kind) (head .count)) _ (c .from-residual-in-Break-action .ensures .1) (c .in-Break-action .ensures tt)
-        (λ f e. whole ∙ ap (λ a. then a (λ a. Ok (record { process = head .process; act = a }))) e);
-      next = made-from-err _ _ (c .from-residual-in-Break-action .ensures .0) }
+          (λ f e. whole ∙ ap (λ a. then a (λ a. Ok (record { process = head .process; act = a }))) e);
+      next = made-from-err _ _ (c .from-residual-in-Break-action .ensures .0);
+    }
 
 pub returns : need.returns
 unfolding operation-answer
@@ -40,4 +41,5 @@ returns g c =
     let whole = ap (λ h. then h (action-answer (g .V·ValueKind .decoded) (c .args .bytes .now) (c .args .at))) read in
     record {
       answer = whole ∙ ap (λ a. then a (λ a. Ok (record { process = head .process; act = a }))) (c .in-Continue-action .ensures tt);
-      next = (omega arith, omega arith) }
+      next = (omega arith, omega arith);
+    }

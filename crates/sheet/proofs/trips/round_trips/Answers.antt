@@ -9,5 +9,5 @@ returns g c =
     let m = g .V·ValueKind·met in
     record {
       writing = write-then-read (k .coded) (k .decoded) (k .number) (m .returned) (λ v. omega (arith, m .bounded v, m .capped));
-      reading = read-then-write (k .coded) (k .decoded) (k .number) (m .kept)
+      reading = read-then-write (k .coded) (k .decoded) (k .number) (m .kept);
     }

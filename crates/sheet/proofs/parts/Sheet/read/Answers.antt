@@ -20,8 +20,10 @@ pub returns-in-Break-header : need.returns-in-Break-header
 returns-in-Break-header g c =
     let bytes = c .args .bytes .now in
     let refused = ap (header-answer bytes) (sym (c .kind-number .ensures)) ∙ sym (c .read-header .ensures .answer) ∙ c .in-Break-header .was tt in
-    record { answer = exit-fault _ _ (c .from-residual .result) _ (c .from-residual .ensures .1) (header-refused (g .V·ValueKind .decoded) bytes (g .V·ValueKind .number) _ refused);
-      returns = made-from-err _ _ (c .from-residual .ensures .0) }
+    record {
+      answer = exit-fault _ _ (c .from-residual .result) _ (c .from-residual .ensures .1) (header-refused (g .V·ValueKind .decoded) bytes (g .V·ValueKind .number) _ refused);
+      returns = made-from-err _ _ (c .from-residual .ensures .0);
+    }
 
 pub read-values-requires : need.read-values-requires
 read-values-requires g c κs = c .in-Continue-header .ensures tt .placed .values
@@ -31,10 +33,12 @@ returns-in-Break-initial g c =
     let bytes = c .args .bytes .now in
     let h = c .in-Continue-header .header in
     let header = ap (header-answer bytes) (sym (c .kind-number .ensures)) ∙ sym (c .read-header .ensures .answer) ∙ c .in-Continue-header .was tt in
-    record { answer = exit-error _ _ (c .from-residual-in-Break-initial .result) (values-answer (g .V·ValueKind .decoded) bytes 24 (h .locations)) _
-      (c .from-residual-in-Break-initial .ensures .1) (c .in-Break-initial .ensures tt)
-      (values-refused (g .V·ValueKind .decoded) bytes (g .V·ValueKind .number) h header);
-      returns = made-from-err _ _ (c .from-residual-in-Break-initial .ensures .0) }
+    record {
+      answer = exit-error _ _ (c .from-residual-in-Break-initial .result) (values-answer (g .V·ValueKind .decoded) bytes 24 (h .locations)) _
+          (c .from-residual-in-Break-initial .ensures .1) (c .in-Break-initial .ensures tt)
+          (values-refused (g .V·ValueKind .decoded) bytes (g .V·ValueKind .number) h header);
+      returns = made-from-err _ _ (c .from-residual-in-Break-initial .ensures .0);
+    }
 
 pub read-operations-requires : need.read-operations-requires
 read-operations-requires g c κs = let p = c .in-Continue-header .ensures tt .placed in record { before = p .before; inside = omega (arith, p .script-end) }
@@ -44,10 +48,12 @@ returns-in-Break-operations g c =
     let bytes = c .args .bytes .now in
     let h = c .in-Continue-header .header in
     let header = ap (header-answer bytes) (sym (c .kind-number .ensures)) ∙ sym (c .read-header .ensures .answer) ∙ c .in-Continue-header .was tt in
-    record { answer = exit-error _ _ (c .from-residual-in-Break-operations .result) (operations-answer (g .V·ValueKind .decoded) bytes (h .script) 4096 (h .operations)) _
-      (c .from-residual-in-Break-operations .ensures .1) (c .in-Break-operations .ensures tt)
-      (operations-refused (g .V·ValueKind .decoded) bytes (g .V·ValueKind .number) h header _ (c .in-Continue-initial .ensures tt));
-      returns = made-from-err _ _ (c .from-residual-in-Break-operations .ensures .0) }
+    record {
+      answer = exit-error _ _ (c .from-residual-in-Break-operations .result) (operations-answer (g .V·ValueKind .decoded) bytes (h .script) 4096 (h .operations)) _
+          (c .from-residual-in-Break-operations .ensures .1) (c .in-Break-operations .ensures tt)
+          (operations-refused (g .V·ValueKind .decoded) bytes (g .V·ValueKind .number) h header _ (c .in-Continue-initial .ensures tt));
+      returns = made-from-err _ _ (c .from-residual-in-Break-operations .ensures .0);
+    }
 
 pub read-script-requires : need.read-script-requires
 read-script-requires g c κs = c .in-Continue-header .ensures tt .placed .script-end
@@ -57,10 +63,12 @@ returns-in-Break-script g c =
     let bytes = c .args .bytes .now in
     let h = c .in-Continue-header .header in
     let header = ap (header-answer bytes) (sym (c .kind-number .ensures)) ∙ sym (c .read-header .ensures .answer) ∙ c .in-Continue-header .was tt in
-    record { answer = exit-error _ _ (c .from-residual-in-Break-script .result) (script-answer bytes (h .script) (h .items)) _
-      (c .from-residual-in-Break-script .ensures .1) (c .in-Break-script .ensures tt)
-      (script-refused (g .V·ValueKind .decoded) bytes (g .V·ValueKind .number) h header _ (c .in-Continue-initial .ensures tt) _ (c .in-Continue-operations .ensures tt));
-      returns = made-from-err _ _ (c .from-residual-in-Break-script .ensures .0) }
+    record {
+      answer = exit-error _ _ (c .from-residual-in-Break-script .result) (script-answer bytes (h .script) (h .items)) _
+          (c .from-residual-in-Break-script .ensures .1) (c .in-Break-script .ensures tt)
+          (script-refused (g .V·ValueKind .decoded) bytes (g .V·ValueKind .number) h header _ (c .in-Continue-initial .ensures tt) _ (c .in-Continue-operations .ensures tt));
+      returns = made-from-err _ _ (c .from-residual-in-Break-script .ensures .0);
+    }
 
 pub returns-then-start-count-len : need.returns-then-start-count-len
 returns-then-start-count-len g c =
