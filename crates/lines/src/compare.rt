@@ -4,7 +4,6 @@ ghost use lib.ListN.{drop};
 ghost use Rattle.lines.specs.Comparing.{operand-at, same-values, still, all-still, meets, all-meet};
 use crate::records::Operand;
 use crate::records::OperandClone;
-use memory::TaggedId;
 use value::ValueKind;
 
 // Operand i, if there is one.
