@@ -3,8 +3,12 @@
 #   sh samples/make.sh samples/kcss.hex > kcss.sheet
 # In the file a byte stands as two hexadecimal digits, with blanks or line ends between the bytes; '#' starts
 # a comment that goes on to the end of its line.
-sed 's/#.*//' "$1" | tr -s ' \t' '\n\n' | while read -r byte; do
-    if [ -n "$byte" ]; then
-        printf "\\$(printf '%03o' "0x$byte")"
+sed 's/#.*//' "$1" | while read -r line; do
+    set --
+    for byte in $line; do
+        set -- "$@" "0x$byte"
+    done
+    if [ $# -gt 0 ]; then
+        printf "$(printf '\\%03o' "$@")"
     fi
 done
