@@ -1,10 +1,6 @@
 // Reading: sheets that are read, and each refusal at its edges.
-use crate::support::Damage;
 use crate::support::LINKS;
 use crate::support::NUMBERS;
-use crate::support::Refused;
-use crate::support::RefusedDebug;
-use crate::support::RefusedPartialEq;
 use crate::support::refusal;
 use sheet::Sheet;
 use std::test::*;
@@ -17,51 +13,24 @@ use value::NumberKind;
 fn both_kinds_are_read(rt: LibcRuntime) -> Result<(), Fail> {
     check_eq(refusal::<Number>(rt.alloc(), &NUMBERS), None)?;
     check_eq(refusal::<Link>(rt.alloc(), &LINKS), None)?;
-    check_eq(
-        refusal::<Link>(rt.alloc(), &NUMBERS),
-        Some(Refused {
-            number: 21,
-            place: 1,
-        }),
-    )?;
-    check_eq(
-        refusal::<Number>(rt.alloc(), &LINKS),
-        Some(Refused {
-            number: 21,
-            place: 1,
-        }),
-    )
+    check_eq(refusal::<Link>(rt.alloc(), &NUMBERS), Some((21, 1)))?;
+    check_eq(refusal::<Number>(rt.alloc(), &LINKS), Some((21, 1)))
 }
 
 #[test]
 fn short_and_long_sheets(rt: LibcRuntime) -> Result<(), Fail> {
-    check_eq(
-        refusal::<Number>(rt.alloc(), &[]),
-        Some(Refused {
-            number: 20,
-            place: 0,
-        }),
-    )?;
+    check_eq(refusal::<Number>(rt.alloc(), &[]), Some((20, 0)))?;
     check_eq(
         refusal::<Number>(rt.alloc(), &NUMBERS[0..23]),
-        Some(Refused {
-            number: 20,
-            place: 23,
-        }),
+        Some((20, 23)),
     )?;
     check_eq(
         refusal::<Number>(rt.alloc(), &NUMBERS[0..24]),
-        Some(Refused {
-            number: 20,
-            place: 24,
-        }),
+        Some((20, 24)),
     )?;
     check_eq(
         refusal::<Number>(rt.alloc(), &NUMBERS[0..81]),
-        Some(Refused {
-            number: 20,
-            place: 81,
-        }),
+        Some((20, 81)),
     )
 }
 
@@ -69,233 +38,49 @@ fn short_and_long_sheets(rt: LibcRuntime) -> Result<(), Fail> {
 #[test]
 fn damaged_numbers(rt: LibcRuntime) -> Result<(), Fail> {
     let damages = [
-        Damage {
-            at: 0,
-            byte: 0,
-            number: 21,
-            place: 0,
-        },
-        Damage {
-            at: 0,
-            byte: 2,
-            number: 21,
-            place: 0,
-        },
-        Damage {
-            at: 1,
-            byte: 3,
-            number: 21,
-            place: 1,
-        },
-        Damage {
-            at: 2,
-            byte: 0,
-            number: 21,
-            place: 2,
-        },
-        Damage {
-            at: 3,
-            byte: 1,
-            number: 21,
-            place: 2,
-        },
-        Damage {
-            at: 4,
-            byte: 0,
-            number: 21,
-            place: 4,
-        },
-        Damage {
-            at: 4,
-            byte: 33,
-            number: 21,
-            place: 4,
-        },
-        Damage {
-            at: 5,
-            byte: 1,
-            number: 21,
-            place: 4,
-        },
-        Damage {
-            at: 6,
-            byte: 9,
-            number: 22,
-            place: 16,
-        },
-        Damage {
-            at: 7,
-            byte: 1,
-            number: 22,
-            place: 16,
-        },
-        Damage {
-            at: 8,
-            byte: 25,
-            number: 22,
-            place: 8,
-        },
-        Damage {
-            at: 9,
-            byte: 1,
-            number: 22,
-            place: 8,
-        },
-        Damage {
-            at: 2,
-            byte: 1,
-            number: 22,
-            place: 12,
-        },
-        Damage {
-            at: 12,
-            byte: 41,
-            number: 22,
-            place: 12,
-        },
-        Damage {
-            at: 15,
-            byte: 1,
-            number: 22,
-            place: 12,
-        },
-        Damage {
-            at: 16,
-            byte: 71,
-            number: 22,
-            place: 16,
-        },
-        Damage {
-            at: 19,
-            byte: 1,
-            number: 22,
-            place: 16,
-        },
-        Damage {
-            at: 20,
-            byte: 83,
-            number: 20,
-            place: 82,
-        },
-        Damage {
-            at: 23,
-            byte: 1,
-            number: 20,
-            place: 82,
-        },
-        Damage {
-            at: 31,
-            byte: 128,
-            number: 24,
-            place: 24,
-        },
-        Damage {
-            at: 39,
-            byte: 128,
-            number: 24,
-            place: 32,
-        },
-        Damage {
-            at: 40,
-            byte: 0,
-            number: 23,
-            place: 40,
-        },
-        Damage {
-            at: 40,
-            byte: 6,
-            number: 23,
-            place: 40,
-        },
-        Damage {
-            at: 40,
-            byte: 4,
-            number: 23,
-            place: 40,
-        },
-        Damage {
-            at: 42,
-            byte: 0,
-            number: 23,
-            place: 40,
-        },
-        Damage {
-            at: 42,
-            byte: 1,
-            number: 23,
-            place: 62,
-        },
-        Damage {
-            at: 42,
-            byte: 3,
-            number: 23,
-            place: 40,
-        },
-        Damage {
-            at: 42,
-            byte: 17,
-            number: 23,
-            place: 40,
-        },
-        Damage {
-            at: 43,
-            byte: 1,
-            number: 23,
-            place: 40,
-        },
-        Damage {
-            at: 51,
-            byte: 128,
-            number: 24,
-            place: 44,
-        },
-        Damage {
-            at: 61,
-            byte: 128,
-            number: 24,
-            place: 54,
-        },
-        Damage {
-            at: 71,
-            byte: 128,
-            number: 24,
-            place: 64,
-        },
-        Damage {
-            at: 73,
-            byte: 32,
-            number: 25,
-            place: 73,
-        },
-        Damage {
-            at: 81,
-            byte: 254,
-            number: 25,
-            place: 81,
-        },
-        Damage {
-            at: 81,
-            byte: 255,
-            number: 25,
-            place: 82,
-        },
-        Damage {
-            at: 72,
-            byte: 0,
-            number: 25,
-            place: 82,
-        },
+        (0, 0, 21, 0),
+        (0, 2, 21, 0),
+        (1, 3, 21, 1),
+        (2, 0, 21, 2),
+        (3, 1, 21, 2),
+        (4, 0, 21, 4),
+        (4, 33, 21, 4),
+        (5, 1, 21, 4),
+        (6, 9, 22, 16),
+        (7, 1, 22, 16),
+        (8, 25, 22, 8),
+        (9, 1, 22, 8),
+        (2, 1, 22, 12),
+        (12, 41, 22, 12),
+        (15, 1, 22, 12),
+        (16, 71, 22, 16),
+        (19, 1, 22, 16),
+        (20, 83, 20, 82),
+        (23, 1, 20, 82),
+        (31, 128, 24, 24),
+        (39, 128, 24, 32),
+        (40, 0, 23, 40),
+        (40, 6, 23, 40),
+        (40, 4, 23, 40),
+        (42, 0, 23, 40),
+        (42, 1, 23, 62),
+        (42, 3, 23, 40),
+        (42, 17, 23, 40),
+        (43, 1, 23, 40),
+        (51, 128, 24, 44),
+        (61, 128, 24, 54),
+        (71, 128, 24, 64),
+        (73, 32, 25, 73),
+        (81, 254, 25, 81),
+        (81, 255, 25, 82),
+        (72, 0, 25, 82),
     ];
-    for damage in damages {
+    for (at, byte, number, place) in damages {
         let mut bytes = NUMBERS;
-        if damage.at < 82 {
-            bytes[damage.at] = damage.byte;
+        if at < 82 {
+            bytes[at] = byte;
         }
-        let expected = Refused {
-            number: damage.number,
-            place: damage.place,
-        };
-        check_eq(refusal::<Number>(rt.alloc(), &bytes), Some(expected))?;
+        check_eq(refusal::<Number>(rt.alloc(), &bytes), Some((number, place)))?;
     }
     Ok(())
 }
@@ -304,65 +89,21 @@ fn damaged_numbers(rt: LibcRuntime) -> Result<(), Fail> {
 #[test]
 fn damaged_links(rt: LibcRuntime) -> Result<(), Fail> {
     let damages = [
-        Damage {
-            at: 24,
-            byte: 1,
-            number: 24,
-            place: 24,
-        },
-        Damage {
-            at: 26,
-            byte: 2,
-            number: 24,
-            place: 24,
-        },
-        Damage {
-            at: 36,
-            byte: 1,
-            number: 23,
-            place: 32,
-        },
-        Damage {
-            at: 46,
-            byte: 1,
-            number: 23,
-            place: 32,
-        },
-        Damage {
-            at: 53,
-            byte: 1,
-            number: 23,
-            place: 32,
-        },
-        Damage {
-            at: 58,
-            byte: 1,
-            number: 24,
-            place: 58,
-        },
-        Damage {
-            at: 68,
-            byte: 1,
-            number: 23,
-            place: 54,
-        },
-        Damage {
-            at: 76,
-            byte: 0,
-            number: 25,
-            place: 79,
-        },
+        (24, 1, 24, 24),
+        (26, 2, 24, 24),
+        (36, 1, 23, 32),
+        (46, 1, 23, 32),
+        (53, 1, 23, 32),
+        (58, 1, 24, 58),
+        (68, 1, 23, 54),
+        (76, 0, 25, 79),
     ];
-    for damage in damages {
+    for (at, byte, number, place) in damages {
         let mut bytes = LINKS;
-        if damage.at < 79 {
-            bytes[damage.at] = damage.byte;
+        if at < 79 {
+            bytes[at] = byte;
         }
-        let expected = Refused {
-            number: damage.number,
-            place: damage.place,
-        };
-        check_eq(refusal::<Link>(rt.alloc(), &bytes), Some(expected))?;
+        check_eq(refusal::<Link>(rt.alloc(), &bytes), Some((number, place)))?;
     }
     let mut untested = LINKS;
     untested[33] = 200;
