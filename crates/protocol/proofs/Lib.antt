@@ -13,3 +13,5 @@ pub mod Spans
 pub mod Settled
 pub mod Links
 pub mod Ordered
+pub mod Turning
+pub mod Asking

@@ -10,3 +10,7 @@ pub mod Seen
 pub mod Certificates
 pub mod Certified
 pub mod Order
+pub mod Phases
+pub mod Lines
+pub mod Runs
+pub mod Steps

@@ -5,6 +5,7 @@
 ghost use Rattle.protocol.specs.Past.{Marks-owned, Ids-never-return, Tids-guard-values, Changes-by-commit, Lost-mark-was-reset};
 ghost use Rattle.protocol.specs.Replay.{Replays-agree};
 ghost use Rattle.protocol.specs.Order.{Order-law};
+ghost use Rattle.protocol.specs.Steps.{Lines-are-events};
 
 // An id in val of a location is the own id of its process, which has its mark there and a value saved.
 pub fn marks_are_owned<V>() -> u8
@@ -52,6 +53,13 @@ pub fn replays_agree<V>() -> u8
 // every location stands for, and an SC said no only after a reset of its mark.
 pub fn order_stands<V>() -> u8
     ensures { λ _. ⌜ Order-law V ⌝ }
+{
+    0
+}
+
+// A line of the algorithm is one event of its process, and the operation keeps what it was asked.
+pub fn lines_are_events<V>() -> u8
+    ensures { λ _. ⌜ Lines-are-events V ⌝ }
 {
     0
 }
