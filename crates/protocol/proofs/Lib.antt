@@ -15,3 +15,5 @@ pub mod Links
 pub mod Ordered
 pub mod Turning
 pub mod Asking
+pub mod Knowing
+pub mod Tracing

@@ -77,3 +77,7 @@ module _ {V : Type 0} (at : ℕ → World V) (event : ℕ → Event V) (initial 
     -- the endless history of these worlds and events
     pub history : History V
     history = record { at = at; event = event; initial = initial; opened = opened; possible = λ t. below (suc t) t (omega arith); leads = leads }
+
+    -- every event is possible
+    pub every-step : (t : ℕ) → Possible (event t) (at t)
+    every-step t = below (suc t) t (omega arith)

@@ -14,3 +14,4 @@ pub mod Phases
 pub mod Lines
 pub mod Runs
 pub mod Steps
+pub mod Traces

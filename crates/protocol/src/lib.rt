@@ -6,6 +6,7 @@ ghost use Rattle.protocol.specs.Past.{Marks-owned, Ids-never-return, Tids-guar
 ghost use Rattle.protocol.specs.Replay.{Replays-agree};
 ghost use Rattle.protocol.specs.Order.{Order-law};
 ghost use Rattle.protocol.specs.Steps.{Lines-are-events};
+ghost use Rattle.protocol.specs.Traces.{Runs-are-histories};
 
 // An id in val of a location is the own id of its process, which has its mark there and a value saved.
 pub fn marks_are_owned<V>() -> u8
@@ -60,6 +61,13 @@ pub fn order_stands<V>() -> u8
 // A line of the algorithm is one event of its process, and the operation keeps what it was asked.
 pub fn lines_are_events<V>() -> u8
     ensures { λ _. ⌜ Lines-are-events V ⌝ }
+{
+    0
+}
+
+// Every run is a history: each of its steps is an event that is possible in its world and leads to the next.
+pub fn runs_are_histories<V>() -> u8
+    ensures { λ _. ⌜ Runs-are-histories V ⌝ }
 {
     0
 }
