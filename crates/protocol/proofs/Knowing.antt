@@ -48,7 +48,7 @@ more P rows i new old here j h =
       | no k ↦ subst P (sym (changed-else rows i new j k)) (old j (omega arith))
       ]
 
-hold : {V : Type 0} (P : Row V → Type 0) (rows : Rows V) (i : ℕ) (new : Row V) (k : ℕ) → ((j : ℕ) → j < k → P (rows j)) → i < k → (P (rows i) → P new)
+pub hold : {V : Type 0} (P : Row V → Type 0) (rows : Rows V) (i : ℕ) (new : Row V) (k : ℕ) → ((j : ℕ) → j < k → P (rows j)) → i < k → (P (rows i) → P new)
        → (j : ℕ) → j < k → P (changed rows i new j)
 hold P rows i new k old l f j h =
     elim (ℕ-discrete j i)
@@ -94,7 +94,7 @@ module _ {V : Type 0} (R : Run V) where
   abbrev pub Hush : ℕ → ℕ → Type 0
   Hush t p = (a : ℕ) (v : V) → R .event t ≡ reset p a v → ⊥
 
-  quiet-still : (t p s : ℕ) → Hush t p → Quiet p s t → Quiet p s (suc t)
+  pub quiet-still : (t p s : ℕ) → Hush t p → Quiet p s t → Quiet p s (suc t)
   quiet-still t p s g k c a v h l e =
       elim (ℕ-discrete c t) [ yes i ↦ g a v (ap (R .event) (sym i) ∙ e) | no n ↦ k c a v h (omega arith) e ]
 
@@ -185,7 +185,7 @@ module _ {V : Type 0} (R : Run V) where
   clear-still t p f g k c h l w =
       elim (ℕ-discrete c t) [ yes e ↦ ap (R .out) e ∙ g (ap (R .who) (sym e) ∙ w) | no n ↦ k c h (omega arith) w ]
 
-  k-still : {t p n b a : ℕ} {v : V} {t8 : ℕ} → W (suc t) .saved p ≡ W t .saved p → Goes t p → KInv t p n b a v t8 → KInv (suc t) p n b a v t8
+  pub k-still : {t p n b a : ℕ} {v : V} {t8 : ℕ} → W (suc t) .saved p ≡ W t .saved p → Goes t p → KInv t p n b a v t8 → KInv (suc t) p n b a v t8
   k-still {t = t} {p = p} {t8 = t8} e g k =
       record { early = (let h = k .early in omega arith); marks = k .marks; tag8 = k .tag8; keeps = e ∙ k .keeps; mine8 = k .mine8; clear8 = clear-still t p t8 g (k .clear8); begun8 = k .begun8 }
 
@@ -204,15 +204,15 @@ module _ {V : Type 0} (R : Run V) where
             [ yes i ↦ g q z f (ap (R .who) (sym i) ∙ w) (ap (R .out) (sym i) ∙ e)
             | no i ↦ k .since c f q z h (omega arith) w e ] }
 
-  e-still : {t p n b a : ℕ} {v : V} {f : ℕ} → Goes t p → EInv t p n b a v f → EInv (suc t) p n b a v f
+  pub e-still : {t p n b a : ℕ} {v : V} {f : ℕ} → Goes t p → EInv t p n b a v f → EInv (suc t) p n b a v f
   e-still {t = t} {p = p} {f = f} g k =
       record { early = (let h = k .early in omega arith); stood = k .stood; tagf = k .tagf; savedf = k .savedf; minef = k .minef; clearf = clear-still t p f g (k .clearf); begunf = k .begunf }
 
-  for-still : (t p n b : ℕ) (F : Purpose V) → W (suc t) .saved p ≡ W t .saved p → Goes t p → ForInv t p n b F → ForInv (suc t) p n b F
+  pub for-still : (t p n b : ℕ) (F : Purpose V) → W (suc t) .saved p ≡ W t .saved p → Goes t p → ForInv t p n b F → ForInv (suc t) p n b F
   for-still t p n b solo e g i = tt
   for-still t p n b (inside a x u v t8) e g i = k-still e g i
 
-  eff-still : (t p n b : ℕ) (F : Purpose V) (f : ℕ) → Goes t p → EffInv t p n b F f → EffInv (suc t) p n b F f
+  pub eff-still : (t p n b : ℕ) (F : Purpose V) (f : ℕ) → Goes t p → EffInv t p n b F f → EffInv (suc t) p n b F f
   eff-still t p n b solo f g i = ((let h = i .0 in omega arith), i .1, clear-still t p f g (i .2), i .3)
   eff-still t p n b (inside a x u v t8) f g i = e-still g i
 
@@ -220,10 +220,10 @@ module _ {V : Type 0} (R : Run V) where
   link-still t p n none g i = tt
   link-still t p n (some a) g i = h-still g i
 
-  f6-still : (t : ℕ) (r : Row V) → F6 t r → F6 (suc t) r
+  pub f6-still : (t : ℕ) (r : Row V) → F6 t r → F6 (suc t) r
   f6-still t r i = (i .0, (let h = i .1 in omega arith), i .2)
 
-  f1-still : (t : ℕ) (r : Row V) → F1 t r → F1 (suc t) r
+  pub f1-still : (t : ℕ) (r : Row V) → F1 t r → F1 (suc t) r
   f1-still t r i = (i .0, i .1, i .2, (let h = i .3 in omega arith), i .4, i .5)
 
   ph-still : (t p n b : ℕ) (ph : Phase V) → W (suc t) .saved p ≡ W t .saved p → Goes t p → Hush t p → PhInv t p n b ph → PhInv (suc t) p n b ph
@@ -245,7 +245,7 @@ module _ {V : Type 0} (R : Run V) where
   pub still : (t p : ℕ) (r : Process V) → W (suc t) .saved p ≡ W t .saved p → Goes t p → Hush t p → PInv t p r → PInv (suc t) p r
   still t p (proc n l b ph) e g y i = (link-still t p n l (spares t p g) (i .0), ph-still t p n b ph e g y (i .1), later b t (i .2))
 
-  sub-saved : (p : ℕ) {q : ℕ} {w w′ : World V} {a : ℕ} {s : ReadPhase V} {e : Event V} {o : ReadTurn V} → ReadLine w q a s e o → w′ ≡ after e w → w′ .saved p ≡ w .saved p
+  pub sub-saved : (p : ℕ) {q : ℕ} {w w′ : World V} {a : ℕ} {s : ReadPhase V} {e : Event V} {o : ReadTurn V} → ReadLine w q a s e o → w′ ≡ after e w → w′ .saved p ≡ w .saved p
   sub-saved p (line-13-value v x) q = ap (λ w. w .saved p) q
   sub-saved p (line-13-id k x) q = ap (λ w. w .saved p) q
   sub-saved p (line-1-value v x) q = ap (λ w. w .saved p) q
@@ -254,93 +254,17 @@ module _ {V : Type 0} (R : Run V) where
   sub-saved p (line-3b-yes k v x) q = ap (λ w. w .saved p) q
   sub-saved p (line-3b-no k v x) q = ap (λ w. w .saved p) q
 
-  clear-now : (t p : ℕ) → Goes t p → Clear p t (suc t)
+  pub clear-now : (t p : ℕ) → Goes t p → Clear p t (suc t)
   clear-now t p g c h l w = let e : c ≡ t = omega arith in ap (R .out) e ∙ g (ap (R .who) (sym e) ∙ w)
 
   -- the effect of a SNAPSHOT is now
-  eff-now : (t p n b : ℕ) (F : Purpose V) (l : Option ℕ) → W t .tag p ≡ n → W t .stage p ≡ purpose-stage F l → R .who t ≡ p → Goes t p → b ≤ t → ForInv t p n b F → EffInv (suc t) p n b F t
+  pub eff-now : (t p n b : ℕ) (F : Purpose V) (l : Option ℕ) → W t .tag p ≡ n → W t .stage p ≡ purpose-stage F l → R .who t ≡ p → Goes t p → b ≤ t → ForInv t p n b F → EffInv (suc t) p n b F t
   eff-now t p n b solo l g s w o y i = (omega arith, w, clear-now t p o, y)
   eff-now t p n b (inside a x u v t8) l g s w o y i = record { early = omega arith; stood = s; tagf = g; savedf = i .keeps; minef = w; clearf = clear-now t p o; begunf = y }
 
-  eff-past : (t p n b : ℕ) (F : Purpose V) (f : ℕ) → EffInv t p n b F f → f < suc t
+  pub eff-past : (t p n b : ℕ) (F : Purpose V) (f : ℕ) → EffInv t p n b F f → f < suc t
   eff-past t p n b solo f i = let h = i .0 in omega arith
   eff-past t p n b (inside a x u v t8) f i = let h = i .early in omega arith
 
   pub to-9 : (t f : ℕ) (r : Row V) → f ≤ t → F1 (suc f) r → F9 f (with-id-second r (W t .tid (r .location)))
   to-9 t f r h i = (i .0, i .1, t, i .2, (let k = i .3 in omega arith), h, i .4, i .5, refl)
-
-  pub own-step : (t p : ℕ) {r r′ : Process V} {e : Event V} {d : Option (Done V)} → Line t p (W t) r e r′ d → R .event t ≡ e → R .out t ≡ d → R .who t ≡ p
-             → W (suc t) ≡ after e (W t) → W t .tag p ≡ tag-of r → W t .stage p ≡ stage-of r → PInv t p r → PInv (suc t) p r′
-  own-step t p (read-on {n = n} {l = l} x) ev o w q g s i = (link-still t p n l (spares t p (λ _. o)) (i .0), sub-own x (i .1), later _ t (i .2))
-  own-step t p (read-got {n = n} {l = l} {a = a} {v = v} x) ev o w q g s i =
-      (link-still t p n l (λ y z f _ e. let x : y ≡ read a = cc in subst Keeps-link (sym x) tt) (i .0), tt, later _ t (i .2))
-  own-step t p (attempt-value x) ev o w q g s i = (tt, tt, later _ t (i .2))
-  own-step t p (attempt-id k x) ev o w q g s i = (tt, tt, later _ t (i .2))
-  own-step t p (again-value x) ev o w q g s i = (tt, tt, later _ t (i .2))
-  own-step t p (again-id k x) ev o w q g s i = (tt, tt, later _ t (i .2))
-  own-step t p (link-on x) ev o w q g s i = (tt, sub-own x (i .1), later _ t (i .2))
-  own-step t p (link-got x) ev o w q g s i = (tt, tt, later _ t (i .2))
-  own-step t p (line-7 {v = v}) ev o w q g s i = (tt, ap (λ w. w .saved p) q ∙ changed-here (W t .saved) p (Value v), later _ t (i .2))
-  own-step t p (line-8-yes {n = n} {J = J} {v = v} x) ev o w q g s i =
-      (tt, (record { early = omega arith; marks = ev; tag8 = g; keeps = ap (λ w. w .saved p) q ∙ i .1; mine8 = w; clear8 = clear-now t p (λ _. o); begun8 = i .2 }, (λ c a v h l y. let z : c ≡ t = omega arith in let y′ = ap (R .event) (sym z) ∙ y in clash (cc))), later _ t (i .2))
-  own-step t p (line-8-no x) ev o w q g s i = (tt, tt, later _ t (i .2))
-  own-step t p (line-9-ll {v = v} {t8 = t8}) ev o w q g s i =
-      let k = i .1 .0 in
-      ( record { e0 = t8; x = v; l0 = t; early = omega arith; order = k .early; marks = k .marks; tag0 = k .tag8; out0 = o; who0 = w; clear0 = k .clear8
-               ; quiet0 = quiet-still t p t8 (λ a v y. clash (cc)) (i .1 .1)
-               ; since = λ c f q z h l. absurd (omega arith) }
-      , tt, later _ t (i .2))
-  own-step t p line-9-one ev o w q g s i = (tt, (k-still (ap (λ w. w .saved p) q) (λ _. o) (i .1 .0), λ h. absurd (omega arith), λ j h. absurd (omega arith)), later _ t (i .2))
-  own-step t p line-9-more ev o w q g s i = (tt, (k-still (ap (λ w. w .saved p) q) (λ _. o) (i .1 .0), omega arith, λ j h. absurd (omega arith)), later _ t (i .2))
-  own-step t p (sc-yes x) ev o w q g s i = (tt, tt, later _ t (i .2))
-  own-step t p (sc-no x) ev o w q g s i = (tt, tt, later _ t (i .2))
-  own-step t p (s6-on {n = n} {b = b} {l = l} {F = F} {rows = rows} {k = k} {i = i} x) ev o w q g s h =
-      ( link-still t p n l (spares t p (λ _. o)) (h .0)
-      , (for-still t p n b F (ap (λ w. w .saved p) q) (λ _. o) (h .1 .0), x, more (F6 (suc t)) rows i _ (λ j y. f6-still t (rows j) (h .1 .2 j y)) (t, omega arith, refl)), later _ t (h .2))
-  own-step t p (s6-end {n = n} {b = b} {l = l} {F = F} {rows = rows} {k = k} {i = i} x) ev o w q g s h =
-      ( link-still t p n l (spares t p (λ _. o)) (h .0)
-      , ( for-still t p n b F (ap (λ w. w .saved p) q) (λ _. o) (h .1 .0), omega arith, tt
-        , (λ j y. more (F6 (suc t)) rows i _ (λ j y. f6-still t (rows j) (h .1 .2 j y)) (t, omega arith, refl) j (omega arith))
-        , (λ j y. absurd (omega arith)) ), later _ t (h .2))
-  own-step t p (c1-on {n = n} {b = b} {l = l} {F = F} {rows = rows} x) ev o w q g s h =
-      ( link-still t p n l (spares t p (λ _. o)) (h .0)
-      , ( for-still t p n b F (sub-saved p x q) (λ _. o) (h .1 .0), h .1 .1, sub-own x (h .1 .2), (λ j y. f6-still t (rows j) (h .1 .3 j y)), (λ j y. f1-still t (rows j) (h .1 .4 j y)) ), later _ t (h .2))
-  own-step t p (c1-got {n = n} {b = b} {l = l} {F = F} {rows = rows} {k = k} {i = i} {v = v} x z) ev o w q g s h =
-      ( link-still t p n l (spares t p (λ _. o)) (h .0)
-      , ( for-still t p n b F (sub-saved p x q) (λ _. o) (h .1 .0), z, tt
-        , hold (F6 (suc t)) rows i _ k (λ j y. f6-still t (rows j) (h .1 .3 j y)) (h .1 .1) (λ y. y)
-        , more (F1 (suc t)) rows i _ (λ j y. f1-still t (rows j) (h .1 .4 j y)) (let y = h .1 .3 i (h .1 .1) in (y .0, t, (let m = y .1 in omega arith), omega arith, y .2, sub-own x (h .1 .2))) ), later _ t (h .2))
-  own-step t p (c1-end {n = n} {b = b} {l = l} {F = F} {rows = rows} {k = k} {i = i} {v = v} x z) ev o w q g s h =
-      ( link-still t p n l (spares t p (λ _. o)) (h .0)
-      , ( for-still t p n b F (sub-saved p x q) (λ _. o) (h .1 .0), omega arith, tt
-        , (λ j m. more (F1 (suc t)) rows i _ (λ j y. f1-still t (rows j) (h .1 .4 j y)) (let y = h .1 .3 i (h .1 .1) in (y .0, t, (let m = y .1 in omega arith), omega arith, y .2, sub-own x (h .1 .2))) j (omega arith))
-        , eff-now t p n b F l g s w (λ _. o) (h .2) (h .1 .0) ), later _ t (h .2))
-  own-step t p (c2-on {n = n} {b = b} {l = l} {F = F} {rows = rows} {f = f} x) ev o w q g s h =
-      ( link-still t p n l (spares t p (λ _. o)) (h .0), (for-still t p n b F (sub-saved p x q) (λ _. o) (h .1 .0), h .1 .1, sub-own x (h .1 .2), h .1 .3, eff-still t p n b F f (λ _. o) (h .1 .4)), later _ t (h .2))
-  own-step t p (c2-got {n = n} {b = b} {l = l} {F = F} {rows = rows} {k = k} {f = f} {i = i} x z) ev o w q g s h =
-      ( link-still t p n l (spares t p (λ _. o)) (h .0)
-      , (for-still t p n b F (sub-saved p x q) (λ _. o) (h .1 .0), z, tt, hold (F1 (suc f)) rows i _ k (h .1 .3) (h .1 .1) (λ y. y), eff-still t p n b F f (λ _. o) (h .1 .4)), later _ t (h .2))
-  own-step t p (c2-end {n = n} {b = b} {l = l} {F = F} {rows = rows} {k = k} {f = f} {i = i} x z) ev o w q g s h =
-      ( link-still t p n l (spares t p (λ _. o)) (h .0)
-      , ( for-still t p n b F (sub-saved p x q) (λ _. o) (h .1 .0), omega arith, hold (F1 (suc f)) rows i _ k (h .1 .3) (h .1 .1) (λ y. y), (λ j y. absurd (omega arith))
-        , (eff-still t p n b F f (λ _. o) (h .1 .4), eff-past t p n b F f (h .1 .4)) ), later _ t (h .2))
-  own-step t p (s9-on {n = n} {b = b} {l = l} {F = F} {rows = rows} {k = k} {f = f} {i = i} z) ev o w q g s h =
-      ( link-still t p n l (spares t p (λ _. o)) (h .0)
-      , ( for-still t p n b F (ap (λ w. w .saved p) q) (λ _. o) (h .1 .0), z, hold (F1 (suc f)) rows i _ k (h .1 .2) (h .1 .1) (λ y. y)
-        , more (F9 f) rows i _ (h .1 .3) (to-9 t f (rows i) (let m = h .1 .4 .1 in omega arith) (h .1 .2 i (h .1 .1)))
-        , (eff-still t p n b F f (λ _. o) (h .1 .4 .0), (let m = h .1 .4 .1 in omega arith)) ), later _ t (h .2))
-  own-step t p (s9-again {n = n} {b = b} {l = l} {F = F} z y a) ev o w q g s h =
-      ( link-still t p n l (spares t p (λ _. o)) (h .0), (for-still t p n b F (ap (λ w. w .saved p) q) (λ _. o) (h .1 .0), omega arith, λ j y. absurd (omega arith)), later _ t (h .2))
-  own-step t p (s9-solo {n = n} {l = l} {rows′ = rows′} {k = k} z y a) ev o w q g s h =
-      (link-still t p n l (λ y z f _ e. let x : y ≡ snapshot (places rows′ 0 k) = cc in subst Keeps-link (sym x) tt) (h .0), tt, later _ t (h .2))
-  own-step t p (s9-inside {n = n} {l = l} {rows = rows} {rows′ = rows′} {k = k} {f = f} {i = i} z y a) ev o w q g s h =
-      ( link-still t p n l (spares t p (λ _. o)) (h .0)
-      , ( k-still (ap (λ w. w .saved p) q) (λ _. o) (h .1 .0), (λ m. e-still (λ _. o) (h .1 .4 .0))
-        , (λ j m. (subst (λ (rr : Rows V). F9 f (rr j)) (sym y) (more (F9 f) rows i _ (h .1 .3) (to-9 t f (rows i) (let m = h .1 .4 .1 in omega arith) (h .1 .2 i (h .1 .1))) j (omega arith)), a j m .0)) ), later _ t (h .2))
-  own-step t p (kcss-one x y) ev o w q g s i = (tt, tt, later _ t (i .2))
-  own-step t p (kcss-yes x y z) ev o w q g s i = (tt, tt, later _ t (i .2))
-  own-step t p (kcss-retry x y z) ev o w q g s i = (tt, tt, later _ t (i .2))
-  own-step t p (kcss-first x y) ev o w q g s i = (tt, tt, later _ t (i .2))
-  own-step t p (kcss-first-gone x y) ev o w q g s i = (tt, tt, later _ t (i .2))
-  own-step t p (kcss-other x y z u) ev o w q g s i = (tt, tt, later _ t (i .2))
-  own-step t p (kcss-other-gone x y z u) ev o w q g s i = (tt, tt, later _ t (i .2))

@@ -16,4 +16,5 @@ pub mod Ordered
 pub mod Turning
 pub mod Asking
 pub mod Knowing
+pub mod Moving
 pub mod Tracing

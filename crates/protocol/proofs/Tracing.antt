@@ -39,7 +39,8 @@ use Rattle.protocol.specs.Traces.{Traces, Runs-are-histories}
 use Rattle.protocol.proofs.Prefix.{every-step}
 use Rattle.protocol.proofs.Marks.{put-of, stood-since, saved-stays}
 use Rattle.protocol.proofs.Turning.{Fits, fits, fits-maker, begun-same, call-turns, call-maker}
-use Rattle.protocol.proofs.Knowing.{W, ReadInv, Clear, Hush, PInv, still, own-step}
+use Rattle.protocol.proofs.Knowing.{W, ReadInv, PInv, still}
+use Rattle.protocol.proofs.Moving.{own-step}
 
 -- a property of the processes after one of them moved
 pub at-move : {V : Type 0} (Q : ℕ → Process V → Type 0) (g : ℕ → Process V) (m : ℕ) (r : Process V) → Q m r → ((p : ℕ) → (p ≡ m → ⊥) → Q p (g p)) → (p : ℕ) → Q p (changed g m r p)

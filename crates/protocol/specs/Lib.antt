@@ -15,3 +15,4 @@ pub mod Lines
 pub mod Runs
 pub mod Steps
 pub mod Traces
+pub mod Lawful
