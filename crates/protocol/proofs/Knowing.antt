@@ -181,7 +181,7 @@ module _ {V : Type 0} (R : Run V) where
   abbrev pub Goes : ℕ → ℕ → Type 0
   Goes t p = R .who t ≡ p → R .out t ≡ none
 
-  clear-still : (t p f : ℕ) → Goes t p → Clear p f t → Clear p f (suc t)
+  pub clear-still : (t p f : ℕ) → Goes t p → Clear p f t → Clear p f (suc t)
   clear-still t p f g k c h l w =
       elim (ℕ-discrete c t) [ yes e ↦ ap (R .out) e ∙ g (ap (R .who) (sym e) ∙ w) | no n ↦ k c h (omega arith) w ]
 

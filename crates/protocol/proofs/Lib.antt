@@ -18,3 +18,9 @@ pub mod Asking
 pub mod Knowing
 pub mod Moving
 pub mod Tracing
+pub mod Ending
+pub mod Owning
+pub mod Giving
+pub mod Finishing
+pub mod Pausing
+pub mod Cutting

@@ -7,6 +7,7 @@ ghost use Rattle.protocol.specs.Replay.{Replays-agree};
 ghost use Rattle.protocol.specs.Order.{Order-law};
 ghost use Rattle.protocol.specs.Steps.{Lines-are-events};
 ghost use Rattle.protocol.specs.Traces.{Runs-are-histories};
+ghost use Rattle.protocol.specs.Lawful.{Run-law};
 
 // An id in val of a location is the own id of its process, which has its mark there and a value saved.
 pub fn marks_are_owned<V>() -> u8
@@ -68,6 +69,14 @@ pub fn lines_are_events<V>() -> u8
 // Every run is a history: each of its steps is an event that is possible in its world and leads to the next.
 pub fn runs_are_histories<V>() -> u8
     ensures { λ _. ⌜ Runs-are-histories V ⌝ }
+{
+    0
+}
+
+// Every run is lawful, at every step: its finished operations, lowest effect step first, are what the one-at-a-time
+// store allows; each is what its Start asked, and takes effect between its Start and its end.
+pub fn runs_are_lawful<V>() -> u8
+    ensures { λ _. ⌜ Run-law V ⌝ }
 {
     0
 }

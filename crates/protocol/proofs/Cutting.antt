@@ -1,0 +1,183 @@
+-- Every run is lawful at every step: cut there it comes to a pause.
+use mathlib.Core.Path.{_≡_, refl, sym, _∙_, ap, subst, fun-ext}
+use mathlib.Core.Bool.{Bool, true, false}
+use mathlib.Core.List.{List, [], _∷_}
+use mathlib.Core.Option.{Option, some, none}
+use mathlib.Core.Logic.{_⊎_, inl, inr}
+use Prim.Native.Nat.{ℕ, zero, suc, _+_, _≤_, _<_}
+use native.Mathlib.Omega.{arith}
+use native.Mathlib.Decide.{ℕ-discrete, decLe}
+use Rattle.memory.specs.declared.cell.Cell.{Cell}
+use Rattle.memory.specs.declared.cell.Cell.the-variants.{Value, Id}
+use Rattle.memory.specs.declared.cell.TaggedId.{TaggedId}
+use Rattle.protocol.specs.World.{Stage, World, id-cell, own-id, changed}
+use Rattle.protocol.specs.World.Stage.{idle, fresh, held, armed}
+use Rattle.protocol.specs.Events.{Event, maker, Possible, after}
+use Rattle.protocol.specs.Events.Event.{look, begin, save, mark, note, commit, fail, reset}
+use Rattle.protocol.specs.Operations.{Expected, Request, Answer, Finished}
+use Rattle.protocol.specs.Operations.Request.{read, ll, sc, snapshot, kcss}
+use Rattle.protocol.specs.Operations.Answer.{values, said}
+use Rattle.protocol.specs.Phases.{ReadPhase, Row, Rows, with-id-first, with-id-second, with-first, with-second, Job, place-of, Purpose, Phase, Process, Done, collected, places, wants, Same, Meets, kcss-of, purpose-request, asked, link-stage, purpose-stage, stage-of, tag-of}
+use Rattle.protocol.specs.Phases.ReadPhase.{looks, looks-again, fetches, resets}
+use Rattle.protocol.specs.Phases.Job.{for-ll, for-kcss}
+use Rattle.protocol.specs.Phases.Purpose.{solo, inside}
+use Rattle.protocol.specs.Phases.Phase.{resting, reading, attempt, attempt-again, linking, to-save, to-mark, to-note, swap-sc, first-id, first-collect, second-collect, second-id, swap}
+use Rattle.protocol.specs.Phases.Process.{proc}
+use Rattle.protocol.specs.Phases.Done.{done}
+use Rattle.protocol.specs.Lines.{ReadTurn, ReadLine, Line}
+use Rattle.protocol.specs.Lines.ReadTurn.{on, got}
+use Rattle.protocol.specs.Lines.ReadLine.{line-13-value, line-13-id, line-1-value, line-1-id, line-3a, line-3b-yes, line-3b-no}
+use Rattle.protocol.specs.Lines.Line.{read-on, read-got, attempt-value, attempt-id, again-value, again-id, link-on, link-got, line-7, line-8-yes, line-8-no, line-9-ll, line-9-one, line-9-more, sc-yes, sc-no, s6-on, s6-end, c1-on, c1-got, c1-end, c2-on, c2-got, c2-end, s9-on, s9-again, s9-solo, s9-inside, kcss-one, kcss-yes, kcss-retry, kcss-first, kcss-first-gone, kcss-other, kcss-other-gone}
+use Rattle.protocol.specs.Runs.{Begins, Machine, world, Given, Was-given, Begun, turned, Call, Run, Paused, with-ended, finished}
+use Rattle.protocol.specs.Runs.Begins.{begins-read, begins-ll, begins-sc, begins-snapshot, begins-kcss}
+use Rattle.protocol.specs.Runs.Given.{given}
+use Rattle.protocol.specs.Runs.Begun.{no-more, and-then}
+use Rattle.protocol.specs.Runs.Call.{steps, pauses}
+use Rattle.protocol.proofs.Changes.{clash, changed-here, changed-else}
+use Rattle.protocol.specs.World.{Stands}
+use Rattle.protocol.specs.Lists.{_∈_, by-effect, Ascending}
+use Rattle.protocol.specs.Store.{opened-store}
+use Rattle.protocol.specs.Replay.{Replays}
+use Rattle.protocol.specs.Certificates.{Keeps-link}
+use Rattle.protocol.specs.Lawful.{Belongs, Lost-to-reset, Law, Run-law}
+use Rattle.protocol.proofs.Prefix.{pick, pick-yes, pick-no}
+use Rattle.protocol.proofs.Pausing.{paused-law}
+
+module _ {V : Type 0} (R : Run V) (n : ℕ) where
+  at-to : ℕ → Machine V
+  at-to t = pick (decLe t n) (R .at t) (R .at n)
+
+  starts-to : ℕ → List (Given V)
+  starts-to t = pick (decLe (suc t) n) (R .starts t) []
+
+  event-to : ℕ → Event V
+  event-to t = pick (decLe (suc t) n) (R .event t) (look (R .who t))
+
+  out-to : ℕ → Option (Done V)
+  out-to t = pick (decLe (suc t) n) (R .out t) none
+
+  same-at : (t : ℕ) → t ≤ n → at-to t ≡ R .at t
+  unfolding at-to
+  same-at t h = pick-yes (decLe t n) (R .at t) (R .at n) h
+
+  past-at : (t : ℕ) → n ≤ t → at-to t ≡ R .at n
+  past-at t h = elim (ℕ-discrete t n) [ yes e ↦ same-at t (omega arith) ∙ ap (R .at) e | no k ↦ unfold at-to in pick-no (decLe t n) (R .at t) (R .at n) (omega arith) ]
+
+  same-starts : (t : ℕ) → t < n → starts-to t ≡ R .starts t
+  unfolding starts-to
+  same-starts t h = pick-yes (decLe (suc t) n) (R .starts t) [] h
+
+  same-event : (t : ℕ) → t < n → event-to t ≡ R .event t
+  unfolding event-to
+  same-event t h = pick-yes (decLe (suc t) n) (R .event t) (look (R .who t)) h
+
+  same-out : (t : ℕ) → t < n → out-to t ≡ R .out t
+  unfolding out-to
+  same-out t h = pick-yes (decLe (suc t) n) (R .out t) none h
+
+  no-starts : (t : ℕ) → (t < n → ⊥) → starts-to t ≡ []
+  unfolding starts-to
+  no-starts t h = pick-no (decLe (suc t) n) (R .starts t) [] h
+
+  looks-on : (t : ℕ) → (t < n → ⊥) → event-to t ≡ look (R .who t)
+  unfolding event-to
+  looks-on t h = pick-no (decLe (suc t) n) (R .event t) (look (R .who t)) h
+
+  no-out : (t : ℕ) → (t < n → ⊥) → out-to t ≡ none
+  unfolding out-to
+  no-out t h = pick-no (decLe (suc t) n) (R .out t) none h
+
+  call-to : (t : ℕ) → Call t (R .who t) (at-to t) (at-to (suc t)) (starts-to t) (event-to t) (out-to t)
+  call-to t =
+      elim (decLe (suc t) n)
+        [ yes h ↦ rw (same-at t (omega arith), same-at (suc t) h, same-starts t h, same-event t h, same-out t h) (R .call t)
+        | no h ↦ rw (no-starts t h, looks-on t h, no-out t h) (pauses (past-at (suc t) (omega arith) ∙ sym (past-at t (omega arith))))
+        ]
+
+  -- the first n steps, and pauses from then on
+  abbrev cut : Run V
+  cut = record
+    { at = at-to; who = R .who; starts = starts-to; event = event-to; out = out-to; initial = R .initial
+    ; vals = λ a. ap (λ m. m .val a) (same-at 0 (omega arith)) ∙ R .vals a
+    ; tids = λ a. ap (λ m. m .tid a) (same-at 0 (omega arith)) ∙ R .tids a
+    ; saves = λ p. ap (λ m. m .saved p) (same-at 0 (omega arith)) ∙ R .saves p
+    ; rested = λ p. ap (λ m. m .processes p) (same-at 0 (omega arith)) ∙ R .rested p
+    ; call = call-to }
+
+  law-of-cut : Law cut n
+  law-of-cut = paused-law cut n (λ t h. (looks-on t (λ k. omega arith), no-out t (λ k. omega arith)))
+
+  same-finished : (t : ℕ) → t ≤ n → finished cut t ≡ finished R t
+  same-finished zero h = refl
+  same-finished (suc t) h = let e = same-out t h in let ih = same-finished t (omega arith) in cc
+
+  all-same : finished cut n ≡ finished R n
+  all-same = same-finished n (omega arith)
+
+  back : (o : Finished V) → o ∈ finished R n → o ∈ finished cut n
+  back o m = subst (λ l. o ∈ l) (sym all-same) m
+
+  its : (o : Finished V) (m : o ∈ finished cut n) → Belongs cut n o
+  its o m = law-of-cut .belongs o m
+
+  abbrev belongs : (o : Finished V) → o ∈ finished R n → Belongs R n o
+  belongs o m = record
+    { start = its o (back o m) .start
+    ; was-given = was-given o (back o m)
+    ; given-once = given-once o (back o m)
+    ; ended-once = λ other m′. its o (back o m) .ended-once other (back other m′)
+    ; after-start = its o (back o m) .after-start
+    ; in-time = its o (back o m) .in-time
+    ; own-effect = its o (back o m) .own-effect
+    ; own-end = its o (back o m) .own-end
+    ; before-n = its o (back o m) .before-n
+    ; ends = sym (same-out (o .last) (its o (back o m) .before-n)) ∙ its o (back o m) .ends
+    }
+    where
+      was-given : (o : Finished V) (m : o ∈ finished cut n) → Was-given (o .process) (o .request) (R .starts (its o m .start))
+      was-given o m =
+          let h = its o m .after-start in let k = its o m .in-time in let l = its o m .before-n in
+          subst (Was-given (o .process) (o .request)) (same-starts (its o m .start) (omega arith)) (its o m .was-given)
+
+      given-once : (o : Finished V) (m : o ∈ finished cut n) (t : ℕ) (q : Request V) → its o m .start < t → t ≤ o .last → Was-given (o .process) q (R .starts t) → ⊥
+      given-once o m t q h k w =
+          let l = its o m .before-n in
+          its o m .given-once t q h k (subst (Was-given (o .process) q) (sym (same-starts t (omega arith))) w)
+
+  failed : (o : Finished V) (a : ℕ) (v : V) (m : o ∈ finished R n) → o .request ≡ sc a v → o .answer ≡ said false → Lost-to-reset R n o a (its o (back o m) .start)
+  unfolding its
+  failed o a v m e e′ = go (law-of-cut .failures o a v (back o m) e e′)
+    where
+      go : Lost-to-reset cut n o a (law-of-cut .belongs o (back o m) .start) → Lost-to-reset R n o a (law-of-cut .belongs o (back o m) .start)
+      go s =
+          let j = s .linking in
+          let B = law-of-cut .belongs j (s .is-listed) in
+          let h1 = B .in-time in let h2 = B .before-n in
+          let B′ = law-of-cut .belongs o (back o m) in
+          let k1 = s .before-end in let k2 = B′ .in-time in let k3 = B′ .before-n in
+          record
+            { linking = j; is-listed = subst (λ l. j ∈ l) all-same (s .is-listed); same-process = s .same-process; asked = s .asked; value = s .value
+            ; marked = sym (same-event (j .effect) (omega arith)) ∙ s .marked
+            ; latest = λ other m′. s .latest other (back other m′)
+            ; step = s .step; by-process = s .by-process; saved = s .saved; after-mark = s .after-mark; before-end = s .before-end
+            ; resets = sym (same-event (s .step) (omega arith)) ∙ s .resets
+            ; its-mark = ap (λ m. m .val a) (sym (same-at (s .step) (omega arith))) ∙ s .its-mark ∙ ap (λ m. own-id (world m) (o .process)) (same-at (j .effect) (omega arith))
+            ; by-another = s .by-another
+            }
+
+  pub lawful : Law R n
+  lawful = record
+    { every = λ t q z f h e. subst (λ l. record { process = R .who t; request = q; answer = z; effect = f; last = t } ∈ by-effect l) all-same (law-of-cut .every t q z f h (same-out t h ∙ e))
+    ; all = subst (λ l. (o : Finished V) → o ∈ l → o ∈ by-effect l) all-same (law-of-cut .all)
+    ; only = subst (λ l. (o : Finished V) → o ∈ by-effect l → o ∈ l) all-same (law-of-cut .only)
+    ; ascending = subst (λ l. Ascending (by-effect l)) all-same (law-of-cut .ascending)
+    ; distinct = subst (λ l. (o o′ : Finished V) → o ∈ l → o′ ∈ l → o .effect ≡ o′ .effect → o ≡ o′) all-same (law-of-cut .distinct)
+    ; store = law-of-cut .store
+    ; replays = subst (λ l. Replays (opened-store (R .initial)) (by-effect l) (law-of-cut .store)) all-same (law-of-cut .replays)
+    ; stands = λ a. subst (λ m. Stands (world m) a (law-of-cut .store .value a)) (same-at n (omega arith)) (law-of-cut .stands a)
+    ; belongs = belongs
+    ; failures = failed
+    }
+
+pub run-law : {V : Type 0} → Run-law V
+run-law R n = lawful R n
