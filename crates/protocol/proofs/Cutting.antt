@@ -28,7 +28,7 @@ use Rattle.protocol.specs.Lines.{ReadTurn, ReadLine, Line}
 use Rattle.protocol.specs.Lines.ReadTurn.{on, got}
 use Rattle.protocol.specs.Lines.ReadLine.{line-13-value, line-13-id, line-1-value, line-1-id, line-3a, line-3b-yes, line-3b-no}
 use Rattle.protocol.specs.Lines.Line.{read-on, read-got, attempt-value, attempt-id, again-value, again-id, link-on, link-got, line-7, line-8-yes, line-8-no, line-9-ll, line-9-one, line-9-more, sc-yes, sc-no, s6-on, s6-end, c1-on, c1-got, c1-end, c2-on, c2-got, c2-end, s9-on, s9-again, s9-solo, s9-inside, kcss-one, kcss-yes, kcss-retry, kcss-first, kcss-first-gone, kcss-other, kcss-other-gone}
-use Rattle.protocol.specs.Runs.{Begins, Machine, world, Given, Was-given, Begun, turned, Call, Run, Paused, with-ended, finished}
+use Rattle.protocol.specs.Runs.{Begins, Machine, world, Given, Was-given, Begun, turned, Call, Run, Makes-line, Makes, Paused, with-ended, finished}
 use Rattle.protocol.specs.Runs.Begins.{begins-read, begins-ll, begins-sc, begins-snapshot, begins-kcss}
 use Rattle.protocol.specs.Runs.Given.{given}
 use Rattle.protocol.specs.Runs.Begun.{no-more, and-then}
@@ -129,6 +129,7 @@ module _ {V : Type 0} (R : Run V) (n : ℕ) where
     ; after-start = its o (back o m) .after-start
     ; in-time = its o (back o m) .in-time
     ; own-effect = its o (back o m) .own-effect
+    ; effect-is-line = effect-is-line o (back o m)
     ; own-end = its o (back o m) .own-end
     ; before-n = its o (back o m) .before-n
     ; ends = sym (same-out (o .last) (its o (back o m) .before-n)) ∙ its o (back o m) .ends
@@ -138,6 +139,17 @@ module _ {V : Type 0} (R : Run V) (n : ℕ) where
       was-given o m =
           let h = its o m .after-start in let k = its o m .in-time in let l = its o m .before-n in
           subst (Was-given (o .process) (o .request)) (same-starts (its o m .start) (omega arith)) (its o m .was-given)
+
+      effect-is-line : (o : Finished V) (m : o ∈ finished cut n) → Makes R (o .effect) (o .process)
+      effect-is-line o m =
+          let f = o .effect in
+          let p = o .process in
+          let k = its o m .in-time in let l = its o m .before-n in
+          let h : f < n = omega arith in
+          subst (Makes-line f p (R .at f) (R .starts f) (R .event f)) (same-out f h)
+            (subst (λ e. Makes-line f p (R .at f) (R .starts f) e (out-to f)) (same-event f h)
+              (subst (λ s. Makes-line f p (R .at f) s (event-to f) (out-to f)) (same-starts f h)
+                (subst (λ m. Makes-line f p m (starts-to f) (event-to f) (out-to f)) (same-at f (omega arith)) (its o m .effect-is-line))))
 
       given-once : (o : Finished V) (m : o ∈ finished cut n) (t : ℕ) (q : Request V) → its o m .start < t → t ≤ o .last → Was-given (o .process) q (R .starts t) → ⊥
       given-once o m t q h k w =

@@ -28,7 +28,7 @@ use Rattle.protocol.specs.Lines.{ReadTurn, ReadLine, Line}
 use Rattle.protocol.specs.Lines.ReadTurn.{on, got}
 use Rattle.protocol.specs.Lines.ReadLine.{line-13-value, line-13-id, line-1-value, line-1-id, line-3a, line-3b-yes, line-3b-no}
 use Rattle.protocol.specs.Lines.Line.{read-on, read-got, attempt-value, attempt-id, again-value, again-id, link-on, link-got, line-7, line-8-yes, line-8-no, line-9-ll, line-9-one, line-9-more, sc-yes, sc-no, s6-on, s6-end, c1-on, c1-got, c1-end, c2-on, c2-got, c2-end, s9-on, s9-again, s9-solo, s9-inside, kcss-one, kcss-yes, kcss-retry, kcss-first, kcss-first-gone, kcss-other, kcss-other-gone}
-use Rattle.protocol.specs.Runs.{Begins, Machine, world, Given, Was-given, Begun, turned, Call, Run, Paused, with-ended, finished}
+use Rattle.protocol.specs.Runs.{Begins, Machine, world, Given, Was-given, Begun, turned, Call, Run, Makes-line, Makes, Paused, with-ended, finished}
 use Rattle.protocol.specs.Runs.Begins.{begins-read, begins-ll, begins-sc, begins-snapshot, begins-kcss}
 use Rattle.protocol.specs.Runs.Given.{given}
 use Rattle.protocol.specs.Runs.Begun.{no-more, and-then}
@@ -38,7 +38,7 @@ use Rattle.protocol.specs.Lists.{_∈_, Apart}
 use Rattle.protocol.specs.Steps.{Keeps}
 use Rattle.protocol.proofs.Asking.{keeps}
 use Rattle.protocol.proofs.Knowing.{W, Clear, Quiet, Held}
-use Rattle.protocol.proofs.Tracing.{begun-knows, its-line, its-tag, its-stage, knows}
+use Rattle.protocol.proofs.Tracing.{begun-knows, its-line, its-tag, its-stage, knows, makes}
 use Rattle.protocol.proofs.Ending.{since-of, fin, Sc-ends, Ended, Mine, Ends, line-ends}
 use Rattle.protocol.proofs.Giving.{Runs, After, after-starts, was-asked}
 
@@ -66,15 +66,15 @@ module _ {V : Type 0} (R : Run V) where
           let y : q′ ≡ q = cc in
           record { b = since-of r; mine = e .0; ended = e .1; asks = subst (λ x. Was-given (R .who t) x (R .starts (since-of r))) y (i .0); asks-once = i .1; clear = i .2 }
 
-  call-whole : (t : ℕ) {list : List (Given V)} {e : Event V} {d : Option (Done V)} → Call t (R .who t) (R .at t) (R .at (suc t)) list e d → R .event t ≡ e → R .starts t ≡ list → Whole t d
-  call-whole t (steps list b y r e d l x) ev s =
+  call-whole : (t : ℕ) {list : List (Given V)} {e : Event V} {d : Option (Done V)} → Call t (R .who t) (R .at t) (R .at (suc t)) list e d → R .event t ≡ e → R .starts t ≡ list → R .out t ≡ d → Whole t d
+  call-whole t (steps list b y r e d l x) ev s o =
       gather t (b .processes (R .who t)) r d
-        (line-ends R t (R .who t) (its-line R t (R .who t) y l) ev refl (its-tag R t (R .who t) y) (its-stage R t (R .who t) y) (begun-knows R t y (knows R t) (R .who t)))
+        (line-ends R t (R .who t) (its-line R t (R .who t) y l) ev (refl, makes R t s ev o (b, r, y, l)) (its-tag R t (R .who t) y) (its-stage R t (R .who t) y) (begun-knows R t y (knows R t) (R .who t)))
         (keeps l) (after-starts R t s y (was-asked R t) (R .who t))
-  call-whole t (pauses x) ev s = tt
+  call-whole t (pauses x) ev s o = tt
 
   pub finishes : (t : ℕ) (q : Request V) (z : Answer V) (f : ℕ) → R .out t ≡ some (done q z f) → Over t q z f
-  finishes t q z f e = subst (Whole t) e (call-whole t (R .call t) refl refl)
+  finishes t q z f e = subst (Whole t) e (call-whole t (R .call t) refl refl refl)
 
   -- the operation ended before n, as told
   abbrev pub Found : ℕ → Finished V → Type 0

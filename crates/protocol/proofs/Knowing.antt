@@ -28,7 +28,7 @@ use Rattle.protocol.specs.Lines.{ReadTurn, ReadLine, Line}
 use Rattle.protocol.specs.Lines.ReadTurn.{on, got}
 use Rattle.protocol.specs.Lines.ReadLine.{line-13-value, line-13-id, line-1-value, line-1-id, line-3a, line-3b-yes, line-3b-no}
 use Rattle.protocol.specs.Lines.Line.{read-on, read-got, attempt-value, attempt-id, again-value, again-id, link-on, link-got, line-7, line-8-yes, line-8-no, line-9-ll, line-9-one, line-9-more, sc-yes, sc-no, s6-on, s6-end, c1-on, c1-got, c1-end, c2-on, c2-got, c2-end, s9-on, s9-again, s9-solo, s9-inside, kcss-one, kcss-yes, kcss-retry, kcss-first, kcss-first-gone, kcss-other, kcss-other-gone}
-use Rattle.protocol.specs.Runs.{Begins, Machine, world, Given, Was-given, Begun, turned, Call, Run, Paused, with-ended, finished}
+use Rattle.protocol.specs.Runs.{Begins, Machine, world, Given, Was-given, Begun, turned, Call, Run, Makes-line, Makes, Paused, with-ended, finished}
 use Rattle.protocol.specs.Runs.Begins.{begins-read, begins-ll, begins-sc, begins-snapshot, begins-kcss}
 use Rattle.protocol.specs.Runs.Given.{given}
 use Rattle.protocol.specs.Runs.Begun.{no-more, and-then}
@@ -98,6 +98,10 @@ module _ {V : Type 0} (R : Run V) where
   quiet-still t p s g k c a v h l e =
       elim (ℕ-discrete c t) [ yes i ↦ g a v (ap (R .event) (sym i) ∙ e) | no n ↦ k c a v h (omega arith) e ]
 
+  -- the step is a line of p
+  abbrev pub Moves : ℕ → ℕ → Type 0
+  Moves t p = (R .who t ≡ p) × Makes R t p
+
   -- from f on, p has finished nothing before t
   abbrev pub Clear : ℕ → ℕ → ℕ → Type 0
   Clear p f t = (c : ℕ) → f ≤ c → c < t → R .who c ≡ p → R .out c ≡ none
@@ -109,7 +113,7 @@ module _ {V : Type 0} (R : Run V) where
     pub marks : R .event t8 ≡ mark p a v
     pub tag8 : W t8 .tag p ≡ n
     pub keeps : W t .saved p ≡ Value v
-    pub mine8 : R .who t8 ≡ p
+    pub mine8 : Moves t8 p
     pub clear8 : Clear p t8 t
 
   -- the LL that gave p its link, with effect e0 and last step l0; since then p finished nothing that touches links
@@ -133,7 +137,7 @@ module _ {V : Type 0} (R : Run V) where
     pub stood : W f .stage p ≡ armed a
     pub tagf : W f .tag p ≡ n
     pub savedf : W f .saved p ≡ Value v
-    pub minef : R .who f ≡ p
+    pub minef : Moves f p
     pub clearf : Clear p f t
 
   abbrev pub ForInv : ℕ → ℕ → ℕ → ℕ → Purpose V → Type 0
@@ -141,7 +145,7 @@ module _ {V : Type 0} (R : Run V) where
   ForInv t p n b (inside a x u v t8) = KInv t p n b a v t8
 
   abbrev pub EffInv : ℕ → ℕ → ℕ → ℕ → Purpose V → ℕ → Type 0
-  EffInv t p n b solo f = (f < t) × (R .who f ≡ p) × Clear p f t × (b ≤ f)
+  EffInv t p n b solo f = (f < t) × Moves f p × Clear p f t × (b ≤ f)
   EffInv t p n b (inside a x u v t8) f = EInv t p n b a v f
 
   abbrev pub F6 : ℕ → Row V → Type 0
@@ -258,7 +262,7 @@ module _ {V : Type 0} (R : Run V) where
   clear-now t p g c h l w = let e : c ≡ t = omega arith in ap (R .out) e ∙ g (ap (R .who) (sym e) ∙ w)
 
   -- the effect of a SNAPSHOT is now
-  pub eff-now : (t p n b : ℕ) (F : Purpose V) (l : Option ℕ) → W t .tag p ≡ n → W t .stage p ≡ purpose-stage F l → R .who t ≡ p → Goes t p → b ≤ t → ForInv t p n b F → EffInv (suc t) p n b F t
+  pub eff-now : (t p n b : ℕ) (F : Purpose V) (l : Option ℕ) → W t .tag p ≡ n → W t .stage p ≡ purpose-stage F l → Moves t p → Goes t p → b ≤ t → ForInv t p n b F → EffInv (suc t) p n b F t
   eff-now t p n b solo l g s w o y i = (omega arith, w, clear-now t p o, y)
   eff-now t p n b (inside a x u v t8) l g s w o y i = record { early = omega arith; stood = s; tagf = g; savedf = i .keeps; minef = w; clearf = clear-now t p o; begunf = y }
 

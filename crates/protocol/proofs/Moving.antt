@@ -28,17 +28,17 @@ use Rattle.protocol.specs.Lines.{ReadTurn, ReadLine, Line}
 use Rattle.protocol.specs.Lines.ReadTurn.{on, got}
 use Rattle.protocol.specs.Lines.ReadLine.{line-13-value, line-13-id, line-1-value, line-1-id, line-3a, line-3b-yes, line-3b-no}
 use Rattle.protocol.specs.Lines.Line.{read-on, read-got, attempt-value, attempt-id, again-value, again-id, link-on, link-got, line-7, line-8-yes, line-8-no, line-9-ll, line-9-one, line-9-more, sc-yes, sc-no, s6-on, s6-end, c1-on, c1-got, c1-end, c2-on, c2-got, c2-end, s9-on, s9-again, s9-solo, s9-inside, kcss-one, kcss-yes, kcss-retry, kcss-first, kcss-first-gone, kcss-other, kcss-other-gone}
-use Rattle.protocol.specs.Runs.{Begins, Machine, world, Given, Was-given, Begun, turned, Call, Run, Paused, with-ended, finished}
+use Rattle.protocol.specs.Runs.{Begins, Machine, world, Given, Was-given, Begun, turned, Call, Run, Makes-line, Makes, Paused, with-ended, finished}
 use Rattle.protocol.specs.Runs.Begins.{begins-read, begins-ll, begins-sc, begins-snapshot, begins-kcss}
 use Rattle.protocol.specs.Runs.Given.{given}
 use Rattle.protocol.specs.Runs.Begun.{no-more, and-then}
 use Rattle.protocol.specs.Runs.Call.{steps, pauses}
 use Rattle.protocol.proofs.Changes.{clash, changed-here, changed-else}
 use Rattle.protocol.specs.Certificates.{Keeps-link}
-use Rattle.protocol.proofs.Knowing.{W, F6, F1, F9, PInv, later, more, hold, link-still, spares, sub-own, k-still, for-still, f6-still, f1-still, h-still, e-still, eff-still, sub-saved, clear-now, eff-now, eff-past, to-9, quiet-still}
+use Rattle.protocol.proofs.Knowing.{W, Moves, F6, F1, F9, PInv, later, more, hold, link-still, spares, sub-own, k-still, for-still, f6-still, f1-still, h-still, e-still, eff-still, sub-saved, clear-now, eff-now, eff-past, to-9, quiet-still}
 
 module _ {V : Type 0} (R : Run V) where
-  pub own-step : (t p : ℕ) {r r′ : Process V} {e : Event V} {d : Option (Done V)} → Line t p (W R t) r e r′ d → R .event t ≡ e → R .out t ≡ d → R .who t ≡ p
+  pub own-step : (t p : ℕ) {r r′ : Process V} {e : Event V} {d : Option (Done V)} → Line t p (W R t) r e r′ d → R .event t ≡ e → R .out t ≡ d → Moves R t p
              → W R (suc t) ≡ after e (W R t) → W R t .tag p ≡ tag-of r → W R t .stage p ≡ stage-of r → PInv R t p r → PInv R (suc t) p r′
   own-step t p (read-on {n = n} {l = l} x) ev o w q g s i = (link-still R t p n l (spares R t p (λ _. o)) (i .0), sub-own R x (i .1), later _ t (i .2))
   own-step t p (read-got {n = n} {l = l} {a = a} {v = v} x) ev o w q g s i =
@@ -55,7 +55,7 @@ module _ {V : Type 0} (R : Run V) where
   own-step t p (line-8-no x) ev o w q g s i = (tt, tt, later _ t (i .2))
   own-step t p (line-9-ll {v = v} {t8 = t8}) ev o w q g s i =
       let k = i .1 .0 in
-      ( record { e0 = t8; x = v; l0 = t; early = omega arith; order = k .early; marks = k .marks; tag0 = k .tag8; out0 = o; who0 = w; clear0 = k .clear8
+      ( record { e0 = t8; x = v; l0 = t; early = omega arith; order = k .early; marks = k .marks; tag0 = k .tag8; out0 = o; who0 = w .0; clear0 = k .clear8
                ; quiet0 = quiet-still R t p t8 (λ a v y. clash (cc)) (i .1 .1)
                ; since = λ c f q z h l. absurd (omega arith) }
       , tt, later _ t (i .2))

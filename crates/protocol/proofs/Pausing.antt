@@ -28,7 +28,7 @@ use Rattle.protocol.specs.Lines.{ReadTurn, ReadLine, Line}
 use Rattle.protocol.specs.Lines.ReadTurn.{on, got}
 use Rattle.protocol.specs.Lines.ReadLine.{line-13-value, line-13-id, line-1-value, line-1-id, line-3a, line-3b-yes, line-3b-no}
 use Rattle.protocol.specs.Lines.Line.{read-on, read-got, attempt-value, attempt-id, again-value, again-id, link-on, link-got, line-7, line-8-yes, line-8-no, line-9-ll, line-9-one, line-9-more, sc-yes, sc-no, s6-on, s6-end, c1-on, c1-got, c1-end, c2-on, c2-got, c2-end, s9-on, s9-again, s9-solo, s9-inside, kcss-one, kcss-yes, kcss-retry, kcss-first, kcss-first-gone, kcss-other, kcss-other-gone}
-use Rattle.protocol.specs.Runs.{Begins, Machine, world, Given, Was-given, Begun, turned, Call, Run, Paused, with-ended, finished}
+use Rattle.protocol.specs.Runs.{Begins, Machine, world, Given, Was-given, Begun, turned, Call, Run, Makes-line, Makes, Paused, with-ended, finished}
 use Rattle.protocol.specs.Runs.Begins.{begins-read, begins-ll, begins-sc, begins-snapshot, begins-kcss}
 use Rattle.protocol.specs.Runs.Given.{given}
 use Rattle.protocol.specs.Runs.Begun.{no-more, and-then}
@@ -116,7 +116,7 @@ module _ {V : Type 0} (R : Run V) (n : ℕ) (Z : Paused R n) where
       let x = over-of R n o m .mine in
       record
         { in-time = x .past
-        ; own-step = call-maker (R .call (o .effect)) ∙ x .by ∙ d .1
+        ; own-step = call-maker (R .call (o .effect)) ∙ x .by .0 ∙ d .1
         ; undisturbed = λ other m′ p h l. let d′ = sound R n other m′ in let k = x .clear (other .last) h l (d′ .1 ∙ p ∙ sym (d .1)) in clash (cc (d′ .2))
         }
 
@@ -159,7 +159,8 @@ module _ {V : Type 0} (R : Run V) (n : ℕ) (Z : Paused R n) where
     ; ended-once = ended-once o m
     ; after-start = over-of R n o m .mine .begun
     ; in-time = over-of R n o m .mine .past
-    ; own-effect = over-of R n o m .mine .by ∙ sound R n o m .1
+    ; own-effect = over-of R n o m .mine .by .0 ∙ sound R n o m .1
+    ; effect-is-line = subst (Makes R (o .effect)) (sound R n o m .1) (over-of R n o m .mine .by .1)
     ; own-end = sound R n o m .1
     ; before-n = sound R n o m .0
     ; ends = sound R n o m .2

@@ -17,11 +17,11 @@ use Rattle.protocol.specs.Lists.{_∈_, by-effect, Ascending}
 use Rattle.protocol.specs.Certificates.{Keeps-link}
 use Rattle.protocol.specs.Phases.{Done}
 use Rattle.protocol.specs.Phases.Done.{done}
-use Rattle.protocol.specs.Runs.{Machine, world, Was-given, Run, finished}
+use Rattle.protocol.specs.Runs.{Machine, world, Was-given, Run, Makes, finished}
 
 -- A finished operation has the request that its process was given, when the step told was next. From then until its
--- last step the process was given nothing else and ended nothing. Its effect is a step of that process since then, not
--- past its last step, which ended it.
+-- last step the process was given nothing else and ended nothing. Its effect is a step of that process since then, a
+-- line and no pause, not past its last step, which ended it.
 pub record Belongs {V : Type 0} (run : Run V) (n : ℕ) (one : Finished V) : Type 0 where
   pub start : ℕ
   pub was-given : Was-given (one .process) (one .request) (run .starts start)
@@ -32,6 +32,7 @@ pub record Belongs {V : Type 0} (run : Run V) (n : ℕ) (one : Finished V) : Typ
   pub after-start : start ≤ one .effect
   pub in-time : one .effect ≤ one .last
   pub own-effect : run .who (one .effect) ≡ one .process
+  pub effect-is-line : Makes run (one .effect) (one .process)
   pub own-end : run .who (one .last) ≡ one .process
   pub before-n : one .last < n
   pub ends : run .out (one .last) ≡ some (done (one .request) (one .answer) (one .effect))
