@@ -1,12 +1,9 @@
 -- The law of every run.
 use mathlib.Core.Path.{_≡_}
 use mathlib.Core.Bool.{false}
-use mathlib.Core.List.{List}
 use mathlib.Core.Option.{some}
 use Prim.Native.Nat.{ℕ, _≤_, _<_}
-use Rattle.memory.specs.declared.cell.Cell.{Cell}
-use Rattle.protocol.specs.World.{World, own-id, Stands}
-use Rattle.protocol.specs.Events.{Event}
+use Rattle.protocol.specs.World.{own-id, Stands}
 use Rattle.protocol.specs.Events.Event.{mark, reset}
 use Rattle.protocol.specs.Operations.{Request, Answer, Finished}
 use Rattle.protocol.specs.Operations.Request.{ll, sc}
@@ -15,9 +12,8 @@ use Rattle.protocol.specs.Store.{Store, opened-store}
 use Rattle.protocol.specs.Replay.{Replays}
 use Rattle.protocol.specs.Lists.{_∈_, by-effect, Ascending}
 use Rattle.protocol.specs.Certificates.{Keeps-link}
-use Rattle.protocol.specs.Phases.{Done}
 use Rattle.protocol.specs.Phases.Done.{done}
-use Rattle.protocol.specs.Runs.{Machine, world, Was-given, Run, Makes, finished}
+use Rattle.protocol.specs.Runs.{world, Was-given, Run, Makes, finished}
 
 -- A finished operation has the request that its process was given, when the step told was next. From then until its
 -- last step the process was given nothing else and ended nothing. Its effect is a step of that process since then, a

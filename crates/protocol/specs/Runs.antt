@@ -3,15 +3,15 @@ use mathlib.Core.Path.{_≡_}
 use mathlib.Core.List.{List, [], _∷_}
 use mathlib.Core.Option.{Option, some, none}
 use mathlib.Core.Logic.{_⊎_}
-use Prim.Native.Nat.{ℕ, zero, suc, _≤_, _<_}
+use Prim.Native.Nat.{ℕ, zero, suc, _≤_}
 use Rattle.memory.specs.declared.cell.Cell.{Cell}
 use Rattle.memory.specs.declared.cell.Cell.the-variants.{Value}
 use Rattle.protocol.specs.World.{World, id-cell, changed}
 use Rattle.protocol.specs.Events.{Event, after}
 use Rattle.protocol.specs.Events.Event.{look}
 use Rattle.protocol.specs.Operations.{Request, Finished}
-use Rattle.protocol.specs.Operations.Request.{read, ll, sc, snapshot, kcss}
-use Rattle.protocol.specs.Phases.{ReadPhase, Rows, Job, Purpose, Phase, Process, Done, places, kcss-of, stage-of, tag-of}
+use Rattle.protocol.specs.Operations.Request.{read, ll, sc, snapshot}
+use Rattle.protocol.specs.Phases.{Rows, Process, Done, places, kcss-of, stage-of, tag-of}
 use Rattle.protocol.specs.Phases.ReadPhase.{looks}
 use Rattle.protocol.specs.Phases.Job.{for-ll, for-kcss}
 use Rattle.protocol.specs.Phases.Purpose.{solo}

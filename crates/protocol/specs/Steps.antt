@@ -2,13 +2,11 @@
 use mathlib.Core.Path.{_≡_}
 use mathlib.Core.Option.{Option, some, none}
 use Prim.Native.Nat.{ℕ}
-use Rattle.protocol.specs.World.{World}
 use Rattle.protocol.specs.Events.{Event, maker, after}
-use Rattle.protocol.specs.Operations.{Request}
 use Rattle.protocol.specs.Phases.{Process, Done, asked}
 use Rattle.protocol.specs.Phases.Done.{done}
 use Rattle.protocol.specs.Lines.{Line}
-use Rattle.protocol.specs.Runs.{Begins, Machine, world, turned}
+use Rattle.protocol.specs.Runs.{Machine, world, turned}
 
 -- A line that ends nothing keeps what the operation was asked; one that ends an operation ends it with that very request,
 -- and the process runs none then.

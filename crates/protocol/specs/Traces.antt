@@ -1,10 +1,9 @@
 -- Every run is a history.
 use mathlib.Core.Path.{_≡_}
 use Prim.Native.Nat.{ℕ, suc}
-use Rattle.protocol.specs.World.{World}
-use Rattle.protocol.specs.Events.{Event, maker, Possible, after}
+use Rattle.protocol.specs.Events.{maker, Possible, after}
 use Rattle.protocol.specs.History.{Opened}
-use Rattle.protocol.specs.Runs.{Machine, world, Run}
+use Rattle.protocol.specs.Runs.{world, Run}
 
 -- The first world is an opened one; each step is made by its process, its event is possible in its world and leads to
 -- the next.
