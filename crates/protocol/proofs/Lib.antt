@@ -13,3 +13,14 @@ pub mod Spans
 pub mod Settled
 pub mod Links
 pub mod Ordered
+pub mod Turning
+pub mod Asking
+pub mod Knowing
+pub mod Moving
+pub mod Tracing
+pub mod Ending
+pub mod Owning
+pub mod Giving
+pub mod Finishing
+pub mod Pausing
+pub mod Cutting

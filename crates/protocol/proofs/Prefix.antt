@@ -8,16 +8,16 @@ use Rattle.protocol.specs.Events.{Event, Possible, after}
 use Rattle.protocol.specs.Events.Event.{look}
 use Rattle.protocol.specs.History.{Opened, History}
 
-pick : {A X : Type 0} → Dec A → X → X → X
+pub pick : {A X : Type 0} → Dec A → X → X → X
 pick (yes a) x y = x
 pick (no h) x y = y
 
-pick-yes : {A X : Type 0} (d : Dec A) (x y : X) → A → pick d x y ≡ x
+pub pick-yes : {A X : Type 0} (d : Dec A) (x y : X) → A → pick d x y ≡ x
 unfolding pick
 pick-yes (yes a) x y h = refl
 pick-yes (no k) x y h = absurd (k h)
 
-pick-no : {A X : Type 0} (d : Dec A) (x y : X) → (A → ⊥) → pick d x y ≡ y
+pub pick-no : {A X : Type 0} (d : Dec A) (x y : X) → (A → ⊥) → pick d x y ≡ y
 unfolding pick
 pick-no (yes a) x y h = absurd (h a)
 pick-no (no k) x y h = refl
@@ -81,3 +81,7 @@ module _ {V : Type 0} (at : ℕ → World V) (event : ℕ → Event V) (initial 
     -- the endless history of these worlds and events
     pub history : History V
     history = record { at = at; event = event; initial = initial; opened = opened; possible = λ t. below (suc t) t (omega arith); leads = leads }
+
+    -- every event is possible
+    pub every-step : (t : ℕ) → Possible (event t) (at t)
+    every-step t = below (suc t) t (omega arith)

@@ -10,3 +10,9 @@ pub mod Seen
 pub mod Certificates
 pub mod Certified
 pub mod Order
+pub mod Phases
+pub mod Lines
+pub mod Runs
+pub mod Steps
+pub mod Traces
+pub mod Lawful

@@ -5,6 +5,9 @@
 ghost use Rattle.protocol.specs.Past.{Marks-owned, Ids-never-return, Tids-guard-values, Changes-by-commit, Lost-mark-was-reset};
 ghost use Rattle.protocol.specs.Replay.{Replays-agree};
 ghost use Rattle.protocol.specs.Order.{Order-law};
+ghost use Rattle.protocol.specs.Steps.{Lines-are-events};
+ghost use Rattle.protocol.specs.Traces.{Runs-are-histories};
+ghost use Rattle.protocol.specs.Lawful.{Run-law};
 
 // An id in val of a location is the own id of its process, which has its mark there and a value saved.
 pub fn marks_are_owned<V>() -> u8
@@ -52,6 +55,28 @@ pub fn replays_agree<V>() -> u8
 // every location stands for, and an SC said no only after a reset of its mark.
 pub fn order_stands<V>() -> u8
     ensures { λ _. ⌜ Order-law V ⌝ }
+{
+    0
+}
+
+// A line of the algorithm is one event of its process, and the operation keeps what it was asked.
+pub fn lines_are_events<V>() -> u8
+    ensures { λ _. ⌜ Lines-are-events V ⌝ }
+{
+    0
+}
+
+// Every run is a history: each of its steps is an event that is possible in its world and leads to the next.
+pub fn runs_are_histories<V>() -> u8
+    ensures { λ _. ⌜ Runs-are-histories V ⌝ }
+{
+    0
+}
+
+// Every run is lawful, at every step: its finished operations, lowest effect step first, are what the one-at-a-time
+// store allows; each is what its Start asked, and takes effect between its Start and its end.
+pub fn runs_are_lawful<V>() -> u8
+    ensures { λ _. ⌜ Run-law V ⌝ }
 {
     0
 }
