@@ -26,9 +26,9 @@ yes-sets (kcss first others new) = set (first .location) new
 
 -- Nothing but a yes changes a value.
 abbrev pub change : {V : Type 0} → Request V → Answer V → Change V
-change request (values answered) = nothing
-change request (said true) = yes-sets request
-change request (said false) = nothing
+change asked (values answered) = nothing
+change asked (said true) = yes-sets asked
+change asked (said false) = nothing
 
 -- The values after a change.
 abbrev pub change-values : {V : Type 0} → Change V → (ℕ → V) → ℕ → V
