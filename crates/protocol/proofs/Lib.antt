@@ -24,3 +24,4 @@ pub mod Giving
 pub mod Finishing
 pub mod Pausing
 pub mod Cutting
+pub mod Opening

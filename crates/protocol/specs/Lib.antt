@@ -16,3 +16,4 @@ pub mod Runs
 pub mod Steps
 pub mod Traces
 pub mod Lawful
+pub mod Opening

@@ -6,6 +6,7 @@ ghost use Rattle.protocol.specs.Past.{Marks-owned, Ids-never-return, Tids-guar
 ghost use Rattle.protocol.specs.Replay.{Replays-agree};
 ghost use Rattle.protocol.specs.Order.{Order-law};
 ghost use Rattle.protocol.specs.Steps.{Lines-are-events};
+ghost use Rattle.protocol.specs.Opening.{Starts-are-open};
 ghost use Rattle.protocol.specs.Traces.{Runs-are-histories};
 ghost use Rattle.protocol.specs.Lawful.{Run-law};
 
@@ -62,6 +63,13 @@ pub fn order_stands<V>() -> u8
 // A line of the algorithm is one event of its process, and the operation keeps what it was asked.
 pub fn lines_are_events<V>() -> u8
     ensures { λ _. ⌜ Lines-are-events V ⌝ }
+{
+    0
+}
+
+// A resting process can be given any request that its link allows.
+pub fn starts_are_open<V>() -> u8
+    ensures { λ _. ⌜ Starts-are-open V ⌝ }
 {
     0
 }
