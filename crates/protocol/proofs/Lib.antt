@@ -25,3 +25,4 @@ pub mod Finishing
 pub mod Pausing
 pub mod Cutting
 pub mod Opening
+pub mod Going

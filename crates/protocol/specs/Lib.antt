@@ -17,3 +17,4 @@ pub mod Steps
 pub mod Traces
 pub mod Lawful
 pub mod Opening
+pub mod Going

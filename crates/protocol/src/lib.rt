@@ -8,6 +8,7 @@ ghost use Rattle.protocol.specs.Order.{Order-law};
 ghost use Rattle.protocol.specs.Steps.{Lines-are-events};
 ghost use Rattle.protocol.specs.Opening.{Starts-are-open};
 ghost use Rattle.protocol.specs.Traces.{Runs-are-histories};
+ghost use Rattle.protocol.specs.Going.{Lines-go-on};
 ghost use Rattle.protocol.specs.Lawful.{Run-law};
 
 // An id in val of a location is the own id of its process, which has its mark there and a value saved.
@@ -77,6 +78,13 @@ pub fn starts_are_open<V>() -> u8
 // Every run is a history: each of its steps is an event that is possible in its world and leads to the next.
 pub fn runs_are_histories<V>() -> u8
     ensures { λ _. ⌜ Runs-are-histories V ⌝ }
+{
+    0
+}
+
+// Where sameness of values can be told, a process that runs an operation always has a line to make.
+pub fn lines_go_on<V>() -> u8
+    ensures { λ _. ⌜ Lines-go-on V ⌝ }
 {
     0
 }
