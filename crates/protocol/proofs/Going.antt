@@ -1,36 +1,33 @@
 -- No process of a run is ever stuck.
-use mathlib.Core.Path.{_≡_, refl, sym, _∙_, ap, subst, fun-ext}
-use mathlib.Core.Bool.{Bool, true, false}
-use mathlib.Core.List.{List, [], _∷_}
-use mathlib.Core.Option.{Option, some, none}
+use mathlib.Core.Path.{_≡_, refl, sym, _∙_, ap, subst}
+use mathlib.Core.List.{List}
+use mathlib.Core.Option.{Option, none}
 use mathlib.Core.Logic.{_⊎_, inl, inr}
-use Prim.Native.Nat.{ℕ, zero, suc, _+_, _≤_, _<_}
+use Prim.Native.Nat.{ℕ, zero, suc, _≤_, _<_}
 use native.Mathlib.Omega.{arith}
 use native.Mathlib.Decide.{ℕ-discrete, decLe}
 use Rattle.memory.specs.declared.cell.Cell.{Cell}
 use Rattle.memory.specs.declared.cell.Cell.the-variants.{Value, Id}
 use Rattle.memory.specs.declared.cell.TaggedId.{TaggedId}
-use Rattle.protocol.specs.World.{Stage, World, id-cell, own-id, changed}
-use Rattle.protocol.specs.World.Stage.{idle, fresh, held, armed}
-use Rattle.protocol.specs.Events.{Event, maker, Possible, after}
+use Rattle.protocol.specs.World.{World, id-cell, changed}
+use Rattle.protocol.specs.Events.{Event, after}
 use Rattle.protocol.specs.Events.Event.{look, begin, save, mark, note, commit, fail, reset}
-use Rattle.protocol.specs.Operations.{Expected, Request, Answer, Finished}
-use Rattle.protocol.specs.Operations.Request.{read, ll, sc, snapshot, kcss}
-use Rattle.protocol.specs.Operations.Answer.{values, said}
-use Rattle.protocol.specs.Phases.{ReadPhase, Row, Rows, with-id-first, with-id-second, with-first, with-second, Job, place-of, Purpose, Phase, Process, Done, collected, places, wants, Same, Meets, kcss-of, purpose-request, asked, link-stage, purpose-stage, stage-of, tag-of}
+use Rattle.protocol.specs.Operations.{Request}
+use Rattle.protocol.specs.Phases.{ReadPhase, Rows, with-id-second, Job, place-of, Purpose, Phase, Process, Done, Same, Meets, asked}
 use Rattle.protocol.specs.Phases.ReadPhase.{looks, looks-again, fetches, resets}
 use Rattle.protocol.specs.Phases.Job.{for-ll, for-kcss}
 use Rattle.protocol.specs.Phases.Purpose.{solo, inside}
-use Rattle.protocol.specs.Phases.Phase.{resting, reading, attempt, attempt-again, linking, to-save, to-mark, to-note, swap-sc, first-id, first-collect, second-collect, second-id, swap}
+use Rattle.protocol.specs.Phases.Phase.{resting, reading, attempt, attempt-again, linking, to-save, to-mark, to-note, swap-sc, first-id, first-collect}
+use Rattle.protocol.specs.Phases.Phase.{second-collect, second-id, swap}
 use Rattle.protocol.specs.Phases.Process.{proc}
-use Rattle.protocol.specs.Phases.Done.{done}
 use Rattle.protocol.specs.Lines.{ReadTurn, ReadLine, Line}
 use Rattle.protocol.specs.Lines.ReadTurn.{on, got}
 use Rattle.protocol.specs.Lines.ReadLine.{line-13-value, line-13-id, line-1-value, line-1-id, line-3a, line-3b-yes, line-3b-no}
-use Rattle.protocol.specs.Lines.Line.{read-on, read-got, attempt-value, attempt-id, again-value, again-id, link-on, link-got, line-7, line-8-yes, line-8-no, line-9-ll, line-9-one, line-9-more, sc-yes, sc-no, s6-on, s6-end, c1-on, c1-got, c1-end, c2-on, c2-got, c2-end, s9-on, s9-again, s9-solo, s9-inside, kcss-one, kcss-yes, kcss-retry, kcss-first, kcss-first-gone, kcss-other, kcss-other-gone}
-use Rattle.protocol.specs.Runs.{Begins, Machine, world, Given, Was-given, Begun, turned, Call, Run, Paused, with-ended, finished}
+use Rattle.protocol.specs.Lines.Line.{read-on, read-got, attempt-value, attempt-id, again-value, again-id, link-on, link-got, line-7, line-8-yes, line-8-no}
+use Rattle.protocol.specs.Lines.Line.{line-9-ll, line-9-one, line-9-more, sc-yes, sc-no, s6-on, s6-end, c1-on, c1-got, c1-end, c2-on, c2-got, c2-end, s9-on}
+use Rattle.protocol.specs.Lines.Line.{s9-again, s9-solo, s9-inside, kcss-one, kcss-yes, kcss-retry, kcss-first, kcss-first-gone, kcss-other, kcss-other-gone}
+use Rattle.protocol.specs.Runs.{Begins, Machine, Given, Begun, Call, Run}
 use Rattle.protocol.specs.Runs.Begins.{begins-read, begins-ll, begins-sc, begins-snapshot, begins-kcss}
-use Rattle.protocol.specs.Runs.Given.{given}
 use Rattle.protocol.specs.Runs.Begun.{no-more, and-then}
 use Rattle.protocol.specs.Runs.Call.{steps, pauses}
 use Rattle.protocol.proofs.Changes.{clash, changed-here, changed-else}
