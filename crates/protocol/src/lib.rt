@@ -1,6 +1,6 @@
-// The protocol: what processes do to the shared cells of a memory, told by worlds, events and histories, and why the
-// order of their operations by effect step is lawful. It is model and proof alone: each theorem is the contract of a
-// function that does nothing else. V is the type of the values, any type.
+// The protocol: what processes do to the shared cells of a memory, told by worlds, events and histories, and by the lines
+// of the algorithm and their runs; and why the order of their operations by effect step is lawful. It is model and proof
+// alone: each theorem is the contract of a function that does nothing else. V is the type of the values, any type.
 // Uses the cells of memories.
 ghost use Rattle.protocol.specs.Past.{Marks-owned, Ids-never-return, Tids-guard-values, Changes-by-commit, Lost-mark-was-reset};
 ghost use Rattle.protocol.specs.Replay.{Replays-agree};
