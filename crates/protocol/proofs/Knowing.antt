@@ -97,7 +97,7 @@ module _ {V : Type 0} (R : Run V) where
   abbrev pub Clear : ℕ → ℕ → ℕ → Type 0
   Clear p f t = (c : ℕ) → f ≤ c → c < t → R .who c ≡ p → R .out c ≡ none
 
-  -- its mark was put at t8, and the Value that it saw is still saved
+  -- its mark was put at t8, and the value that it saw is still saved
   pub record KInv (t p n b a : ℕ) (v : V) (t8 : ℕ) : Type 0 where
     pub early : t8 < t
     pub begun8 : b ≤ t8
@@ -171,7 +171,6 @@ module _ {V : Type 0} (R : Run V) where
   abbrev pub PInv : ℕ → ℕ → Process V → Type 0
   PInv t p (proc n l b ph) = LinkInv t p n l × PhInv t p n b ph × (b ≤ t)
 
-  -- a process that does not move
   -- p ends nothing now
   abbrev pub Goes : ℕ → ℕ → Type 0
   Goes t p = R .who t ≡ p → R .out t ≡ none

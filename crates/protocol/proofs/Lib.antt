@@ -24,3 +24,5 @@ pub mod Giving
 pub mod Finishing
 pub mod Pausing
 pub mod Cutting
+pub mod Opening
+pub mod Going

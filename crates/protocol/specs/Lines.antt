@@ -148,8 +148,8 @@ pub data Line {V : Type 0} (t p : ℕ) (w : World V)
   kcss-first : {n b a : ℕ} {x u v : V} {t8 : ℕ} {rows : Rows V} {k f : ℕ} → (v ≡ x → ⊥) → w .val a ≡ id-cell p n
     → Line t p w (proc n none b (swap a x u v t8 rows k f)) (commit p a v)
         (proc n none b resting) (some (done (kcss-of a x u rows k) (said false) t8))
-  kcss-first-gone : {n b a : ℕ} {x u v : V} {t8 : ℕ} {rows : Rows V} {k f : ℕ} → (v ≡ x → ⊥) → (w .val a ≡ id-cell p n
-      → ⊥)
+  kcss-first-gone : {n b a : ℕ} {x u v : V} {t8 : ℕ} {rows : Rows V} {k f : ℕ} → (v ≡ x → ⊥)
+      → (w .val a ≡ id-cell p n → ⊥)
     → Line t p w (proc n none b (swap a x u v t8 rows k f)) (fail p a)
         (proc n none b resting) (some (done (kcss-of a x u rows k) (said false) t8))
   kcss-other : {n b a : ℕ} {x u v : V} {t8 : ℕ} {rows : Rows V} {k f j : ℕ} → v ≡ x → j < k

@@ -48,7 +48,7 @@ world m = record
 pub data Given (V : Type 0) : Type 0 where
   given : (process : ℕ) → Request V → Given V
 
--- The process was given the request, in the list; it was given something.
+-- In the list the process was given the request.
 abbrev pub Was-given : {V : Type 0} → ℕ → Request V → List (Given V) → Type 0
 Was-given process request [] = ⊥
 Was-given process request (one ∷ more) = (one ≡ given process request) ⊎ Was-given process request more
@@ -58,7 +58,8 @@ pub data Begun {V : Type 0} (t : ℕ) (m : Machine V) : List (Given V) → Machi
   no-more : Begun t m [] m
   and-then : {m′ : Machine V} {list : List (Given V)} → Begun t m list m′ → (p : ℕ) (q : Request V) (r : Process V)
     → Begins t (m′ .processes p) q r
-    → Begun t m (given p q ∷ list) (record { val = m′ .val; tid = m′ .tid; saved = m′ .saved; processes = changed (m′ .processes) p r })
+    → Begun t m (given p q ∷ list)
+        (record { val = m′ .val; tid = m′ .tid; saved = m′ .saved; processes = changed (m′ .processes) p r })
 
 -- The machine after an event, by which a process comes to a new state.
 abbrev pub turned : {V : Type 0} → Machine V → Event V → ℕ → Process V → Machine V

@@ -1,12 +1,14 @@
-// The protocol: what processes do to the shared cells of a memory, told by worlds, events and histories, and why the
-// order of their operations by effect step is lawful. It is model and proof alone: each theorem is the contract of a
-// function that does nothing else. V is the type of the values, any type.
+// The protocol: what processes do to the shared cells of a memory, told by worlds, events and histories, and by the lines
+// of the algorithm and their runs; and why the order of their operations by effect step is lawful. It is model and proof
+// alone: each theorem is the contract of a function that does nothing else. V is the type of the values, any type.
 // Uses the cells of memories.
 ghost use Rattle.protocol.specs.Past.{Marks-owned, Ids-never-return, Tids-guard-values, Changes-by-commit, Lost-mark-was-reset};
 ghost use Rattle.protocol.specs.Replay.{Replays-agree};
 ghost use Rattle.protocol.specs.Order.{Order-law};
 ghost use Rattle.protocol.specs.Steps.{Lines-are-events};
+ghost use Rattle.protocol.specs.Opening.{Starts-are-open};
 ghost use Rattle.protocol.specs.Traces.{Runs-are-histories};
+ghost use Rattle.protocol.specs.Going.{Lines-go-on};
 ghost use Rattle.protocol.specs.Lawful.{Run-law};
 
 // An id in val of a location is the own id of its process, which has its mark there and a value saved.
@@ -66,9 +68,23 @@ pub fn lines_are_events<V>() -> u8
     0
 }
 
+// A resting process can be given any request that its link allows.
+pub fn starts_are_open<V>() -> u8
+    ensures { λ _. ⌜ Starts-are-open V ⌝ }
+{
+    0
+}
+
 // Every run is a history: each of its steps is an event that is possible in its world and leads to the next.
 pub fn runs_are_histories<V>() -> u8
     ensures { λ _. ⌜ Runs-are-histories V ⌝ }
+{
+    0
+}
+
+// Where sameness of values can be told, a process that runs an operation always has a line to make.
+pub fn lines_go_on<V>() -> u8
+    ensures { λ _. ⌜ Lines-go-on V ⌝ }
 {
     0
 }
