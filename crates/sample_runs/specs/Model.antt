@@ -189,8 +189,8 @@ abbrev pub turned : Machine → ℕ → Process → Running → Turn ℕ → Mac
 turned m p q r (On phase milestone) = with-process m p (record { tag = q .tag; link = q .link; running = Some (moved r (m .steps) phase milestone) })
 turned m p q r (Ends answer effect) =
     with-event
-      (with-process m p (record { tag = q .tag; link = link-after (r .kind) (r .operands) (q .link); running = None }))
-      (ended (r .number) p (outcome answer (r .operands)) (r .began) (effect-step r (m .steps) effect) (m .steps))
+    (with-process m p (record { tag = q .tag; link = link-after (r .kind) (r .operands) (q .link); running = None }))
+    (ended (r .number) p (outcome answer (r .operands)) (r .began) (effect-step r (m .steps) effect) (m .steps))
 
 -- `m` is the machine before the step, `n` the one after its access
 abbrev pub turns : Machine → Machine → ℕ → Process → Running → Option (Turn ℕ) → Machine
@@ -230,8 +230,8 @@ abbrev pub steps-in : Machine → ℕ → Process → Option Running → Machine
 steps-in m p q None = with-event m (misfit p)
 steps-in m p q (Some r) =
     cond (is-attempt (r .phase))
-      (cond (ltb (q .tag) (m .greatest-tag)) (goes m p (raised q) r) (with-event m (refused p 14)))
-      (goes m p q r)
+    (cond (ltb (q .tag) (m .greatest-tag)) (goes m p (raised q) r) (with-event m (refused p 14)))
+    (goes m p q r)
 
 abbrev pub first-phase : OperationKind → Phase ℕ
 first-phase Read = Reading Look
