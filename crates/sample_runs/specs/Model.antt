@@ -260,7 +260,7 @@ abbrev pub starts : Machine → ℕ → Process → OperationKind → List (ℕ 
 starts m p q kind given new None = with-process (with-start m) p (record {
   tag = q .tag;
   link = link-at-start kind (q .link);
-  running = Some (record { number = m .started; kind = kind; operands = operands-of given; new = new; phase = first-phase kind; began = 0; marked = 0; collected = 0 });
+  running = Some (record { number = suc (m .started); kind = kind; operands = operands-of given; new = new; phase = first-phase kind; began = 0; marked = 0; collected = 0 });
 })
 starts m p q kind given new (Some r) = with-event m (misfit p)
 

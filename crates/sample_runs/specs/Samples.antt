@@ -1,5 +1,5 @@
 -- Sample runs of the model, from a machine whose locations 0 and 1 hold 5 and 7: what ends, when, and with which answer.
--- Operations are numbered from 0 in the order of their starts.
+-- Operations are numbered from 1 in the order of their starts.
 use mathlib.Core.Path.{_≡_}
 use mathlib.Core.Bool.{cond}
 use mathlib.Core.List.{List, [], _∷_}
@@ -19,7 +19,7 @@ abbrev pub opening : ℕ → Machine
 opening greatest = record {
   val = λ a. Value (cond (eqb a 0) 5 7);
   tid = λ a. Id no-id;
-  saved = λ p. Value 0;
+  saved = λ p. Id no-id;
   processes = λ p. record { tag = 0; link = None; running = None };
   steps = 0;
   started = 0;
@@ -53,7 +53,7 @@ ran script = run (opening 1000) script
 
 -- both values are as expected: yes, and location 0 then holds the new value
 abbrev pub Kcss-yes : Type 0
-Kcss-yes = ran (kcss 5 7 ∷ steps-of 0 9 []) .trace ≡ ended 0 0 said-yes 1 6 9 ∷ []
+Kcss-yes = ran (kcss 5 7 ∷ steps-of 0 9 []) .trace ≡ ended 1 0 said-yes 1 6 9 ∷ []
 
 abbrev pub Kcss-yes-first : Type 0
 Kcss-yes-first = ran (kcss 5 7 ∷ steps-of 0 9 []) .val 0 ≡ Value 9
@@ -63,33 +63,33 @@ Kcss-yes-second = ran (kcss 5 7 ∷ steps-of 0 9 []) .val 1 ≡ Value 7
 
 -- the second value differs
 abbrev pub Kcss-no-second : Type 0
-Kcss-no-second = ran (kcss 5 8 ∷ steps-of 0 9 []) .trace ≡ ended 0 0 said-no 1 6 9 ∷ []
+Kcss-no-second = ran (kcss 5 8 ∷ steps-of 0 9 []) .trace ≡ ended 1 0 said-no 1 6 9 ∷ []
 
 -- the first value differs
 abbrev pub Kcss-no-first : Type 0
-Kcss-no-first = ran (kcss 4 7 ∷ steps-of 0 9 []) .trace ≡ ended 0 0 said-no 1 3 9 ∷ []
+Kcss-no-first = ran (kcss 4 7 ∷ steps-of 0 9 []) .trace ≡ ended 1 0 said-no 1 3 9 ∷ []
 
 abbrev pub Ll-sc : Type 0
 Ll-sc = ran (ll ∷ steps-of 0 4 (sc ∷ step 0 ∷ [])) .trace
-    ≡ ended 0 0 (gave (Some 5 ∷ [])) 1 3 4 ∷ ended 1 0 said-yes 5 5 5 ∷ []
+    ≡ ended 1 0 (gave (Some 5 ∷ [])) 1 3 4 ∷ ended 2 0 said-yes 5 5 5 ∷ []
 
 -- the READ of another process resets the mark, and the SC says no
 abbrev pub Ll-read-sc : Type 0
 Ll-read-sc = ran (ll ∷ steps-of 0 4 (read 1 ∷ steps-of 1 5 (sc ∷ step 0 ∷ []))) .trace
-    ≡ ended 0 0 (gave (Some 5 ∷ [])) 1 3 4 ∷ ended 1 1 (gave (Some 5 ∷ [])) 5 9 9 ∷ ended 2 0 said-no 10 10 10 ∷ []
+    ≡ ended 1 0 (gave (Some 5 ∷ [])) 1 3 4 ∷ ended 2 1 (gave (Some 5 ∷ [])) 5 9 9 ∷ ended 3 0 said-no 10 10 10 ∷ []
 
 abbrev pub Snapshot-rest : Type 0
-Snapshot-rest = ran (snapshot ∷ steps-of 0 8 []) .trace ≡ ended 0 0 (gave (Some 5 ∷ Some 7 ∷ [])) 1 4 8 ∷ []
+Snapshot-rest = ran (snapshot ∷ steps-of 0 8 []) .trace ≡ ended 1 0 (gave (Some 5 ∷ Some 7 ∷ [])) 1 4 8 ∷ []
 
 -- the READ of another process resets the mark of the KCSS, which begins afresh
 abbrev pub Kcss-again : Type 0
 Kcss-again = ran (kcss 5 7 ∷ steps-of 0 6 (read 1 ∷ steps-of 1 5 (steps-of 0 12 []))) .trace
-    ≡ ended 1 1 (gave (Some 5 ∷ [])) 7 11 11 ∷ ended 0 0 said-yes 1 20 23 ∷ []
+    ≡ ended 2 1 (gave (Some 5 ∷ [])) 7 11 11 ∷ ended 1 0 said-yes 1 20 23 ∷ []
 
 -- the greatest tag is 1: a second attempt is refused
 abbrev pub Tags-spent : Type 0
 Tags-spent = run (opening 1) (ll ∷ steps-of 0 4 (sc ∷ step 0 ∷ ll ∷ step 0 ∷ [])) .trace
-    ≡ ended 0 0 (gave (Some 5 ∷ [])) 1 3 4 ∷ ended 1 0 said-yes 5 5 5 ∷ refused 0 14 ∷ []
+    ≡ ended 1 0 (gave (Some 5 ∷ [])) 1 3 4 ∷ ended 2 0 said-yes 5 5 5 ∷ refused 0 14 ∷ []
 
 pub record All-samples : Type 0 where
   pub kcss-yes : Kcss-yes
