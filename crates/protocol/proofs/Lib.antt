@@ -24,3 +24,6 @@ pub mod Giving
 pub mod Finishing
 pub mod Pausing
 pub mod Cutting
+pub mod Costing
+pub mod Falling
+pub mod Alone

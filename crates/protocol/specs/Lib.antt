@@ -16,3 +16,5 @@ pub mod Runs
 pub mod Steps
 pub mod Traces
 pub mod Lawful
+pub mod Remaining
+pub mod Solo
