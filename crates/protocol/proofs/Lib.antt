@@ -27,3 +27,4 @@ pub mod Cutting
 pub mod Costing
 pub mod Falling
 pub mod Alone
+pub mod Fitting

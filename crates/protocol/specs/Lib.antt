@@ -18,3 +18,4 @@ pub mod Traces
 pub mod Lawful
 pub mod Remaining
 pub mod Solo
+pub mod Asked

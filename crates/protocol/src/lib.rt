@@ -9,6 +9,7 @@ ghost use Rattle.protocol.specs.Steps.{Lines-are-events};
 ghost use Rattle.protocol.specs.Traces.{Runs-are-histories};
 ghost use Rattle.protocol.specs.Lawful.{Run-law};
 ghost use Rattle.protocol.specs.Solo.{Solo-bounds};
+ghost use Rattle.protocol.specs.Asked.{Asked-bounds};
 
 // An id in val of a location is the own id of its process, which has its mark there and a value saved.
 pub fn marks_are_owned<V>() -> u8
@@ -86,6 +87,14 @@ pub fn runs_are_lawful<V>() -> u8
 // locations within 12 m + 1, a KCSS of k locations within 16 k - 5, from any cells and any line of the operation.
 pub fn solo_bounds<V>() -> u8
     ensures { λ _. ⌜ Solo-bounds V ⌝ }
+{
+    0
+}
+
+// The bounds are told by what was asked, and hold from every Start whose KCSS does not repeat its first location, in
+// every phase that its lines lead to.
+pub fn asked_bounds<V>() -> u8
+    ensures { λ _. ⌜ Asked-bounds V ⌝ }
 {
     0
 }
