@@ -26,3 +26,7 @@ pub mod Pausing
 pub mod Cutting
 pub mod Opening
 pub mod Going
+pub mod Costing
+pub mod Falling
+pub mod Alone
+pub mod Fitting

@@ -18,3 +18,6 @@ pub mod Traces
 pub mod Lawful
 pub mod Opening
 pub mod Going
+pub mod Remaining
+pub mod Solo
+pub mod Asked

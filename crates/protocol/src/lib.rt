@@ -10,6 +10,8 @@ ghost use Rattle.protocol.specs.Opening.{Starts-are-open};
 ghost use Rattle.protocol.specs.Traces.{Runs-are-histories};
 ghost use Rattle.protocol.specs.Going.{Lines-go-on};
 ghost use Rattle.protocol.specs.Lawful.{Run-law};
+ghost use Rattle.protocol.specs.Solo.{Solo-bounds};
+ghost use Rattle.protocol.specs.Asked.{Asked-bounds};
 
 // An id in val of a location is the own id of its process, which has its mark there and a value saved.
 pub fn marks_are_owned<V>() -> u8
@@ -93,6 +95,22 @@ pub fn lines_go_on<V>() -> u8
 // store allows; each is what its Start asked, and takes effect between its Start and its end.
 pub fn runs_are_lawful<V>() -> u8
     ensures { λ _. ⌜ Run-law V ⌝ }
+{
+    0
+}
+
+// A process that steps alone ends its operation: a READ within 7 lines, an LL within 10, an SC within 1, a SNAPSHOT of m
+// locations within 12 m + 1, a KCSS of k locations within 16 k - 5, from any cells and any line of the operation.
+pub fn solo_bounds<V>() -> u8
+    ensures { λ _. ⌜ Solo-bounds V ⌝ }
+{
+    0
+}
+
+// The bounds are told by what was asked, and hold from every Start whose KCSS does not repeat its first location, in
+// every phase that its lines lead to.
+pub fn asked_bounds<V>() -> u8
+    ensures { λ _. ⌜ Asked-bounds V ⌝ }
 {
     0
 }
