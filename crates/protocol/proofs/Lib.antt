@@ -28,3 +28,5 @@ pub mod Costing
 pub mod Falling
 pub mod Alone
 pub mod Fitting
+pub mod Sounding
+pub mod Going

@@ -19,3 +19,4 @@ pub mod Lawful
 pub mod Remaining
 pub mod Solo
 pub mod Asked
+pub mod Sound

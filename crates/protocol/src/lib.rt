@@ -10,6 +10,7 @@ ghost use Rattle.protocol.specs.Traces.{Runs-are-histories};
 ghost use Rattle.protocol.specs.Lawful.{Run-law};
 ghost use Rattle.protocol.specs.Solo.{Solo-bounds};
 ghost use Rattle.protocol.specs.Asked.{Asked-bounds};
+ghost use Rattle.protocol.specs.Sound.{Goes-on};
 
 // An id in val of a location is the own id of its process, which has its mark there and a value saved.
 pub fn marks_are_owned<V>() -> u8
@@ -95,6 +96,13 @@ pub fn solo_bounds<V>() -> u8
 // every phase that its lines lead to.
 pub fn asked_bounds<V>() -> u8
     ensures { λ _. ⌜ Asked-bounds V ⌝ }
+{
+    0
+}
+
+// In a sound machine a process that runs an operation can make its next line, and the machine stays sound for it.
+pub fn solo_goes_on<V>() -> u8
+    ensures { λ _. ⌜ Goes-on V ⌝ }
 {
     0
 }
