@@ -23,10 +23,12 @@ use Rattle.protocol.specs.Lines.ReadLine.{line-13-value, line-13-id, line-1-va
 use Rattle.protocol.specs.Lines.Line.{read-on, read-got, attempt-value, attempt-id, again-value, again-id, link-on, link-got, line-7, line-8-yes, line-8-no}
 use Rattle.protocol.specs.Lines.Line.{line-9-ll, line-9-one, line-9-more, sc-yes, sc-no, s6-on, s6-end, c1-on, c1-got, c1-end, c2-on, c2-got, c2-end, s9-on}
 use Rattle.protocol.specs.Lines.Line.{s9-again, s9-solo, s9-inside, kcss-one, kcss-yes, kcss-retry, kcss-first, kcss-first-gone, kcss-other, kcss-other-gone}
-use Rattle.protocol.specs.Runs.{world}
-use Rattle.protocol.specs.Solo.{Phase-fits, Fits}
-use Rattle.protocol.specs.Sound.{Read-sound, Phase-sound, Process-sound, Goes, Goes-on}
-use Rattle.protocol.proofs.Changes.{clash}
+use Rattle.protocol.specs.Runs.{Machine, world, turned}
+use Rattle.protocol.specs.Solo.{bound, Phase-fits, Fits, Remaining}
+use Rattle.protocol.specs.Sound.{Read-sound, Phase-sound, Process-sound, Sound, Goes, Ends-within, Goes-on}
+use Rattle.protocol.proofs.Changes.{clash, changed-here}
+use Rattle.protocol.proofs.Alone.{bounds}
+use Rattle.protocol.proofs.Fitting.{asked-bounds}
 use Rattle.protocol.proofs.Sounding.{stays-sound}
 
 below-or : (a b : ℕ) → (a < b) ⊎ (b ≤ a)
@@ -159,5 +161,24 @@ module _ {V : Type 0} (d : Discrete V) where
     goes : (r : Process V) → Fits r → Process-sound (w .saved) p r → Goes t p w r
     goes (proc n l b ph) f h = goes-in n b l ph f h
 
+-- as long as lines remain
+finishes : {V : Type 0} → Discrete V → (p N t : ℕ) (m : Machine V) → Sound m p → Fits (m .processes p) → Remaining m p N → Ends-within p N t m
+finishes d p zero t m S f h = bounds .measure .not-zero p m h
+finishes {V = V} d p (suc N) t m S f h = over (goes d t p (world m) (m .processes p) f (S .process)) (λ e r l. finishes d p N (suc t) (turned m e p r))
+  where
+    over : Goes t p (world m) (m .processes p)
+           → ((e : Event V) (r : Process V) → Line t p (world m) (m .processes p) e r none → Sound (turned m e p r) p → Fits (turned m e p r .processes p)
+              → Remaining (turned m e p r) p N → Ends-within p N (suc t) (turned m e p r))
+           → Ends-within p (suc N) t m
+    over (e, r, some o, l) more = (e, r, inl (o, l))
+    over (e, r, none, l) more =
+        (e, r, inr (l, more e r l (stays-sound t p m e r none l S)
+          (subst (λ (x : Process V). Fits x) (sym (changed-here (m .processes) p r)) (asked-bounds .lines-fit t p (world m) (m .processes p) r e l f))
+          (bounds .measure .falls t p N m e r l h)))
+
 pub goes-on : {V : Type 0} → Goes-on V
-goes-on = record { goes = λ d t p m S f. goes d t p (world m) (m .processes p) f (S .process); stays-sound = stays-sound }
+goes-on = record
+  { goes = λ d t p m S f. goes d t p (world m) (m .processes p) f (S .process)
+  ; stays-sound = stays-sound
+  ; finishes = λ d t p m S f. finishes d p (bound (m .processes p)) t m S f (bounds .measure .within-bound p m f)
+  }

@@ -30,3 +30,4 @@ pub mod Alone
 pub mod Fitting
 pub mod Sounding
 pub mod Going
+pub mod Backing

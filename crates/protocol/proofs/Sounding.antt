@@ -22,7 +22,7 @@ use Rattle.protocol.specs.Sound.{Backed, Cells-sound, Read-sound, Process-soun
 use Rattle.protocol.proofs.Changes.{clash, changed-here, here-or-else}
 
 -- a mark is put only by a process with a saved value
-abbrev Fine : {V : Type 0} → Event V → World V → Type 0
+abbrev pub Fine : {V : Type 0} → Event V → World V → Type 0
 Fine (look q) w = Unit {0}
 Fine (begin q) w = Unit {0}
 Fine (save q v) w = Unit {0}
@@ -47,7 +47,7 @@ module _ {V : Type 0} (w : World V) (S : Cells-sound w) where
         | inr h ↦ S .vals b k (sym h ∙ e)
         ]
 
-  with-saved : (q : ℕ) (v : V) (k : TaggedId) → Backed (w .saved) k → Backed (changed (w .saved) q (Value v)) k
+  pub with-saved : (q : ℕ) (v : V) (k : TaggedId) → Backed (w .saved) k → Backed (changed (w .saved) q (Value v)) k
   with-saved q v k (x, e) =
       elim (here-or-else (w .saved) q (Value v) (k .process))
         [ inl h ↦ (v, h .1)
@@ -61,7 +61,7 @@ module _ {V : Type 0} (w : World V) (S : Cells-sound w) where
         | inr h ↦ (S .tids b .0, h ∙ S .tids b .1)
         ]
 
-  cells-after : (e : Event V) → Fine e w → Cells-sound (after e w)
+  pub cells-after : (e : Event V) → Fine e w → Cells-sound (after e w)
   cells-after (look q) f = S
   cells-after (begin q) f = record { vals = S .vals; tids = S .tids }
   cells-after (save q v) f = record { vals = λ a k e. with-saved q v k (S .vals a k e); tids = S .tids }
@@ -80,7 +80,7 @@ module _ {V : Type 0} {p : ℕ} {w : World V} (S : Cells-sound w) where
   read-fine (line-3b-yes k v x) h = (tt, tt)
   read-fine (line-3b-no k v x) h = (tt, tt)
 
-  fine : {t : ℕ} {r r′ : Process V} {e : Event V} {d : Option (Done V)} → Line t p w r e r′ d → Process-sound (w .saved) p r
+  pub fine : {t : ℕ} {r r′ : Process V} {e : Event V} {d : Option (Done V)} → Line t p w r e r′ d → Process-sound (w .saved) p r
          → Fine e w × Process-sound (after e w .saved) p r′
   fine (read-on x) h = read-fine x h
   fine (read-got (line-13-value v x)) h = (tt, tt)

@@ -1,7 +1,8 @@
 -- Sound machines, in which a process that runs an operation can always make its next line.
 use mathlib.Core.Path.{_≡_}
 use mathlib.Core.Option.{Option, some, none}
-use Prim.Native.Nat.{ℕ}
+use mathlib.Core.Logic.{_⊎_}
+use Prim.Native.Nat.{ℕ, zero, suc}
 use Rattle.memory.specs.declared.cell.Cell.{Cell}
 use Rattle.memory.specs.declared.cell.Cell.the-variants.{Value, Id}
 use Rattle.memory.specs.declared.cell.TaggedId.{TaggedId}
@@ -14,8 +15,8 @@ use Rattle.protocol.specs.Phases.Phase.{resting, reading, attempt, attempt-aga
 use Rattle.protocol.specs.Phases.Phase.{swap-sc, first-id, first-collect, second-collect, second-id, swap}
 use Rattle.protocol.specs.Phases.Process.{proc}
 use Rattle.protocol.specs.Lines.{Line}
-use Rattle.protocol.specs.Runs.{Machine, world, turned}
-use Rattle.protocol.specs.Solo.{Fits}
+use Rattle.protocol.specs.Runs.{Machine, world, turned, Run}
+use Rattle.protocol.specs.Solo.{bound, Fits}
 
 -- The saved cell of the id's process is a value.
 abbrev pub Backed : {V : Type 0} → (saved : ℕ → Cell V) → TaggedId → Type 0
@@ -68,6 +69,14 @@ pub record Sound {V : Type 0} (m : Machine V) (p : ℕ) : Type 0 where
 abbrev pub Goes : {V : Type 0} (t p : ℕ) → World V → Process V → Type 0
 Goes {V = V} t p w r = (e : Event V) × (r′ : Process V) × (d : Option (Done V)) × Line t p w r e r′ d
 
+-- Process p, stepped alone from step t on, ends its operation with its N-th line or before.
+abbrev pub Ends-within : {V : Type 0} (p N t : ℕ) → Machine V → Type 0
+Ends-within p zero t m = ⊥
+Ends-within {V = V} p (suc N) t m =
+  (e : Event V) × (r : Process V)
+  × (((o : Done V) × Line t p (world m) (m .processes p) e r (some o))
+     ⊎ (Line t p (world m) (m .processes p) e r none × Ends-within p N (suc t) (turned m e p r)))
+
 -- Where it can be told of any two values whether they are the same, a process that runs an operation in a sound machine
 -- can make its next line, and the machine after any line that it makes is sound. So, stepped alone, it ends its
 -- operation within its bound.
@@ -76,3 +85,9 @@ pub record Goes-on (V : Type 0) : Type 0 where
     → Goes t p (world m) (m .processes p)
   pub stays-sound : (t p : ℕ) (m : Machine V) (e : Event V) (r : Process V) (d : Option (Done V))
     → Line t p (world m) (m .processes p) e r d → Sound m p → Sound (turned m e p r) p
+  pub finishes : Discrete V → (t p : ℕ) (m : Machine V) → Sound m p → Fits (m .processes p)
+    → Ends-within p (bound (m .processes p)) t m
+
+-- Every machine of a run is sound, for every process.
+abbrev pub Runs-sound : Type 0 → Type 0
+Runs-sound V = (run : Run V) (t p : ℕ) → Sound (run .at t) p
