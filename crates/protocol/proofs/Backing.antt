@@ -26,7 +26,7 @@ use Rattle.protocol.proofs.Asking.{one-event}
 use Rattle.protocol.proofs.Sounding.{with-saved, cells-after, fine}
 
 -- the machine is sound for all processes
-abbrev All-sound : {V : Type 0} → Machine V → Type 0
+abbrev pub All-sound : {V : Type 0} → Machine V → Type 0
 All-sound m = Cells-sound (world m) × ((p : ℕ) → Process-sound (m .saved) p (m .processes p))
 
 -- an event of another process
@@ -84,7 +84,7 @@ begins-sound saved p (begins-sc a u) = refl
 begins-sound saved p (begins-snapshot rows k) = tt
 begins-sound saved p (begins-kcss a x u rows k) = refl
 
-begun-sound : {V : Type 0} {t : ℕ} {m m′ : Machine V} {list : List (Given V)} → Begun t m list m′ → All-sound m → All-sound m′
+pub begun-sound : {V : Type 0} {t : ℕ} {m m′ : Machine V} {list : List (Given V)} → Begun t m list m′ → All-sound m → All-sound m′
 begun-sound no-more S = S
 begun-sound {V = V} (and-then {m′ = b} more p q r s) S = again (begun-sound more S)
   where

@@ -31,3 +31,4 @@ pub mod Fitting
 pub mod Sounding
 pub mod Going
 pub mod Backing
+pub mod Soloing

@@ -20,3 +20,4 @@ pub mod Remaining
 pub mod Solo
 pub mod Asked
 pub mod Sound
+pub mod Finishes
