@@ -1,11 +1,11 @@
 -- Every machine of a run is sound.
 use mathlib.Core.Path.{_≡_, refl, sym, _∙_, ap, subst}
 use mathlib.Core.List.{List}
-use mathlib.Core.Option.{Option, none}
+use mathlib.Core.Option.{Option}
 use Prim.Native.Nat.{ℕ, zero, suc}
 use native.Mathlib.Decide.{ℕ-discrete}
 use Rattle.memory.specs.declared.cell.Cell.{Cell}
-use Rattle.memory.specs.declared.cell.Cell.the-variants.{Value, Id}
+use Rattle.memory.specs.declared.cell.Cell.the-variants.{Value}
 use Rattle.memory.specs.declared.cell.TaggedId.{TaggedId}
 use Rattle.protocol.specs.World.{World, changed}
 use Rattle.protocol.specs.Events.{Event, maker, after}
@@ -16,11 +16,11 @@ use Rattle.protocol.specs.Phases.ReadPhase.{looks, looks-again, fetches, reset
 use Rattle.protocol.specs.Phases.Phase.{resting, reading, attempt, attempt-again, linking, to-save, to-mark, to-note}
 use Rattle.protocol.specs.Phases.Phase.{swap-sc, first-id, first-collect, second-collect, second-id, swap}
 use Rattle.protocol.specs.Phases.Process.{proc}
-use Rattle.protocol.specs.Runs.{Begins, Machine, world, Given, Begun, turned, Call, Run}
+use Rattle.protocol.specs.Runs.{Begins, Machine, world, Given, Begun, turned, Call}
 use Rattle.protocol.specs.Runs.Begins.{begins-read, begins-ll, begins-sc, begins-snapshot, begins-kcss}
 use Rattle.protocol.specs.Runs.Begun.{no-more, and-then}
 use Rattle.protocol.specs.Runs.Call.{steps, pauses}
-use Rattle.protocol.specs.Sound.{Backed, Cells-sound, Read-sound, Phase-sound, Process-sound, Sound, Runs-sound}
+use Rattle.protocol.specs.Sound.{Backed, Cells-sound, Read-sound, Phase-sound, Process-sound, Runs-sound}
 use Rattle.protocol.proofs.Changes.{clash, changed-here, changed-else}
 use Rattle.protocol.proofs.Asking.{one-event}
 use Rattle.protocol.proofs.Sounding.{with-saved, cells-after, fine}

@@ -10,7 +10,7 @@ use Rattle.memory.specs.declared.cell.Cell.the-variants.{Value, Id}
 use Rattle.memory.specs.declared.cell.TaggedId.{TaggedId}
 use Rattle.protocol.specs.World.{World, id-cell, changed}
 use Rattle.protocol.specs.Events.{Event}
-use Rattle.protocol.specs.Phases.{ReadPhase, Rows, Job, place-of, Purpose, Phase, Process, Same, Meets, with-id-second}
+use Rattle.protocol.specs.Phases.{ReadPhase, Rows, Job, place-of, Purpose, Phase, Process, Meets, with-id-second}
 use Rattle.protocol.specs.Phases.ReadPhase.{looks, looks-again, fetches, resets}
 use Rattle.protocol.specs.Phases.Job.{for-ll, for-kcss}
 use Rattle.protocol.specs.Phases.Purpose.{solo, inside}

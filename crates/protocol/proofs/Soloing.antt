@@ -10,10 +10,10 @@ use Rattle.protocol.specs.Events.{Event}
 use Rattle.protocol.specs.Phases.{Process, Done, asked}
 use Rattle.protocol.specs.Phases.Done.{done}
 use Rattle.protocol.specs.Lines.{Line}
-use Rattle.protocol.specs.Runs.{Machine, world, Given, Begun, turned, Call, Run}
+use Rattle.protocol.specs.Runs.{Machine, world, Given, Begun, Call, Run}
 use Rattle.protocol.specs.Runs.Begun.{no-more, and-then}
 use Rattle.protocol.specs.Runs.Call.{steps, pauses}
-use Rattle.protocol.specs.Solo.{bound, Fits}
+use Rattle.protocol.specs.Solo.{Fits}
 use Rattle.protocol.specs.Asked.{request-bound}
 use Rattle.protocol.specs.Sound.{Sound, Ends-within}
 use Rattle.protocol.specs.Finishes.{None-repeats, Runs-finish}

@@ -1,10 +1,8 @@
 -- Every line of a process keeps the machine sound for it.
-use mathlib.Core.Path.{_≡_, refl, sym, _∙_, ap, subst}
+use mathlib.Core.Path.{_≡_, sym, _∙_, ap, subst}
 use mathlib.Core.Option.{Option}
-use mathlib.Core.Logic.{_⊎_, inl, inr}
+use mathlib.Core.Logic.{inl, inr}
 use Prim.Native.Nat.{ℕ}
-use native.Mathlib.Decide.{ℕ-discrete}
-use Rattle.memory.specs.declared.cell.Cell.{Cell}
 use Rattle.memory.specs.declared.cell.Cell.the-variants.{Value, Id}
 use Rattle.memory.specs.declared.cell.TaggedId.{TaggedId}
 use Rattle.protocol.specs.World.{World, changed, own-id}
