@@ -29,6 +29,6 @@ pub mod Falling
 pub mod Alone
 pub mod Fitting
 pub mod Sounding
-pub mod Going
+pub mod Proceeding
 pub mod Backing
 pub mod Soloing

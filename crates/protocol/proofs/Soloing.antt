@@ -20,7 +20,7 @@ use Rattle.protocol.specs.Finishes.{None-repeats, Runs-finish}
 use Rattle.protocol.proofs.Changes.{clash, changed-here, changed-else}
 use Rattle.protocol.proofs.Asking.{keeps}
 use Rattle.protocol.proofs.Fitting.{asked-bounds}
-use Rattle.protocol.proofs.Going.{goes-on}
+use Rattle.protocol.proofs.Proceeding.{goes-on}
 use Rattle.protocol.proofs.Backing.{begun-sound, runs-sound}
 
 -- it was asked nothing, or it fits
