@@ -1,18 +1,17 @@
 -- What remains is within the bounds, and a process alone ends.
-use mathlib.Core.Path.{_≡_, refl, sym, ap, subst}
-use mathlib.Core.Logic.{_⊎_, inl, inr}
+use mathlib.Core.Path.{refl, sym, subst}
+use mathlib.Core.Logic.{inl, inr}
 use Prim.Native.Nat.{ℕ, zero, suc, _+_, _*_, _≤_, _<_}
 use native.Mathlib.Omega.{arith}
 use Rattle.memory.specs.declared.cell.Cell.{Cell}
-use Rattle.protocol.specs.World.{changed}
-use Rattle.protocol.specs.Phases.{Rows, Job, place-of, Purpose, Phase, Process}
+use Rattle.protocol.specs.Phases.{Job, place-of, Purpose, Phase, Process}
 use Rattle.protocol.specs.Phases.Job.{for-ll, for-kcss}
 use Rattle.protocol.specs.Phases.Purpose.{solo, inside}
 use Rattle.protocol.specs.Phases.Phase.{resting, reading, attempt, attempt-again, linking, to-save, to-mark, to-note}
 use Rattle.protocol.specs.Phases.Phase.{swap-sc, first-id, first-collect, second-collect, second-id, swap}
 use Rattle.protocol.specs.Phases.Process.{proc}
 use Rattle.protocol.specs.Runs.{Machine, turned}
-use Rattle.protocol.specs.Remaining.{cost, costs, Reads, beyond, beyond-lost, Rest, Left-in, Left}
+use Rattle.protocol.specs.Remaining.{beyond, beyond-lost, Rest, Left-in, Left}
 use Rattle.protocol.specs.Solo.{job-bound, purpose-bound, phase-bound, bound, Phase-fits, Fits, Remaining, Falls, Alone, Solo-bounds}
 use Rattle.protocol.proofs.Changes.{changed-here}
 use Rattle.protocol.proofs.Costing.{high, costs-high, costs-above, costs-but, reads-some, reads-7}

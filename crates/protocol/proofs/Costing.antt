@@ -1,12 +1,12 @@
 -- What READs cost, and how a line of a READ lowers it.
-use mathlib.Core.Path.{_≡_, refl, sym, _∙_, ap, subst}
-use mathlib.Core.Logic.{_⊎_, inl, inr}
+use mathlib.Core.Path.{_≡_, refl, sym, _∙_, ap}
+use mathlib.Core.Logic.{inl, inr}
 use Prim.Native.Nat.{ℕ, zero, suc, _+_, _*_, _≤_, _<_}
 use native.Mathlib.Omega.{arith}
 use native.Mathlib.Decide.{ℕ-discrete}
 use Rattle.memory.specs.declared.cell.Cell.{Cell}
 use Rattle.memory.specs.declared.cell.Cell.the-variants.{Value, Id}
-use Rattle.protocol.specs.World.{World, id-cell, changed}
+use Rattle.protocol.specs.World.{World, changed}
 use Rattle.protocol.specs.Events.{Event, after}
 use Rattle.protocol.specs.Phases.{ReadPhase, Row, Rows, Job, place-of, Purpose}
 use Rattle.protocol.specs.Phases.ReadPhase.{looks, looks-again, fetches, resets}

@@ -1,26 +1,25 @@
 -- Every line that ends nothing takes one from what remains.
 use mathlib.Core.Path.{_≡_, refl, sym, _∙_, ap, subst}
-use mathlib.Core.Logic.{_⊎_, inl, inr}
+use mathlib.Core.Logic.{inl, inr}
 use mathlib.Core.Option.{none}
 use Prim.Native.Nat.{ℕ, zero, suc, _+_, _*_, _≤_, _<_}
 use native.Mathlib.Omega.{arith}
-use Rattle.memory.specs.declared.cell.Cell.{Cell}
-use Rattle.memory.specs.declared.cell.Cell.the-variants.{Value, Id}
+use Rattle.memory.specs.declared.cell.Cell.the-variants.{Value}
 use Rattle.protocol.specs.World.{World, id-cell, changed}
 use Rattle.protocol.specs.Events.{Event, after}
-use Rattle.protocol.specs.Phases.{ReadPhase, Row, Rows, with-id-first, with-id-second, with-first, with-second, place-of, Purpose, Process, Same, tag-of}
+use Rattle.protocol.specs.Phases.{ReadPhase, Rows, with-id-first, with-id-second, with-first, with-second, place-of, Purpose, Process, Same, tag-of}
 use Rattle.protocol.specs.Phases.ReadPhase.{looks}
-use Rattle.protocol.specs.Phases.Purpose.{solo, inside}
+use Rattle.protocol.specs.Phases.Purpose.{inside}
 use Rattle.protocol.specs.Phases.Phase.{first-id, first-collect, second-collect, second-id, swap}
 use Rattle.protocol.specs.Lines.{Line, ReadLine}
 use Rattle.protocol.specs.Lines.ReadTurn.{on}
 use Rattle.protocol.specs.Lines.ReadLine.{line-13-value}
 use Rattle.protocol.specs.Lines.Line.{read-on, attempt-value, attempt-id, again-value, again-id, link-on, link-got, line-7, line-8-yes, line-8-no}
 use Rattle.protocol.specs.Lines.Line.{line-9-one, line-9-more, s6-on, s6-end, c1-on, c1-got, c1-end, c2-on, c2-got, c2-end, s9-on, s9-again, s9-inside, kcss-retry}
-use Rattle.protocol.specs.Remaining.{cost, cost-again, costs, Purpose-fits, beyond, Rest, Ids-stand, Firsts-stand, Values-agree, Ids-agree, Left-in, Left}
+use Rattle.protocol.specs.Remaining.{cost, cost-again, costs, Ids-stand, Firsts-stand, Values-agree, Ids-agree, Left-in, Left}
 use Rattle.protocol.proofs.Changes.{changed-here}
 use Rattle.protocol.proofs.Knowing.{more, hold}
-use Rattle.protocol.proofs.Costing.{low, high, costs-low, costs-plain, costs-set, off-set, fits-set, costs-drop, beyond-lower, beyond-off, rest-calm, calm, read-tids, read-falls, no-turn, reads-some}
+use Rattle.protocol.proofs.Costing.{high, costs-low, costs-plain, costs-set, off-set, fits-set, costs-drop, beyond-lower, beyond-off, rest-calm, calm, read-tids, read-falls, no-turn, reads-some}
 
 -- the lines of a SNAPSHOT
 module _ {V : Type 0} (w : World V) (p n : ℕ) (F : Purpose V) (rows : Rows V) (k : ℕ) where

@@ -5,7 +5,7 @@ use mathlib.Core.Option.{some, none}
 use Prim.Native.Nat.{ℕ, zero, suc, _+_, _*_, _≤_, _<_}
 use native.Mathlib.Omega.{arith}
 use native.Mathlib.Decide.{ℕ-discrete}
-use Rattle.protocol.specs.World.{World, changed}
+use Rattle.protocol.specs.World.{World}
 use Rattle.protocol.specs.Events.{Event}
 use Rattle.protocol.specs.Operations.{Request}
 use Rattle.protocol.specs.Phases.{Rows, Job, Purpose, Phase, Process, places, wants, job-request, purpose-request, phase-request, asked}
@@ -20,7 +20,7 @@ use Rattle.protocol.specs.Lines.Line.{line-9-one, line-9-more, s6-on, s6-end, 
 use Rattle.protocol.specs.Runs.{Begins}
 use Rattle.protocol.specs.Runs.Begins.{begins-read, begins-ll, begins-sc, begins-snapshot, begins-kcss}
 use Rattle.protocol.specs.Remaining.{Off, Purpose-fits}
-use Rattle.protocol.specs.Solo.{job-bound, purpose-bound, phase-bound, bound, Phase-fits, Fits}
+use Rattle.protocol.specs.Solo.{job-bound, purpose-bound, phase-bound, bound, Fits}
 use Rattle.protocol.specs.Asked.{request-bound, Not-among, No-repeat, Asked-bounds}
 use Rattle.protocol.proofs.Costing.{off-set, fits-set}
 use Rattle.protocol.proofs.Alone.{bounds}

@@ -30,3 +30,7 @@ pub mod Costing
 pub mod Falling
 pub mod Alone
 pub mod Fitting
+pub mod Sounding
+pub mod Proceeding
+pub mod Backing
+pub mod Soloing

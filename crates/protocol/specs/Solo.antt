@@ -1,10 +1,8 @@
 -- A process that steps alone: how many lines it can make before its operation has ended.
-use mathlib.Core.Path.{_≡_}
 use mathlib.Core.Option.{none}
-use Prim.Native.Nat.{ℕ, zero, suc, _+_, _*_, _≤_, _<_}
+use Prim.Native.Nat.{ℕ, zero, suc, _+_, _*_, _<_}
 use Rattle.protocol.specs.Events.{Event}
-use Rattle.protocol.specs.Operations.{Request}
-use Rattle.protocol.specs.Phases.{Rows, Job, Purpose, Phase, Process}
+use Rattle.protocol.specs.Phases.{Job, Purpose, Phase, Process}
 use Rattle.protocol.specs.Phases.Job.{for-ll, for-kcss}
 use Rattle.protocol.specs.Phases.Purpose.{solo, inside}
 use Rattle.protocol.specs.Phases.Phase.{resting, reading, attempt, attempt-again, linking, to-save, to-mark, to-note}

@@ -12,6 +12,8 @@ ghost use Rattle.protocol.specs.Going.{Lines-go-on};
 ghost use Rattle.protocol.specs.Lawful.{Run-law};
 ghost use Rattle.protocol.specs.Solo.{Solo-bounds};
 ghost use Rattle.protocol.specs.Asked.{Asked-bounds};
+ghost use Rattle.protocol.specs.Sound.{Goes-on, Runs-sound};
+ghost use Rattle.protocol.specs.Finishes.{Runs-finish};
 
 // An id in val of a location is the own id of its process, which has its mark there and a value saved.
 pub fn marks_are_owned<V>() -> u8
@@ -111,6 +113,28 @@ pub fn solo_bounds<V>() -> u8
 // every phase that its lines lead to.
 pub fn asked_bounds<V>() -> u8
     ensures { λ _. ⌜ Asked-bounds V ⌝ }
+{
+    0
+}
+
+// In a sound machine a process that runs an operation can make its next line, and the machine stays sound for it: stepped
+// alone, it ends its operation within its bound.
+pub fn solo_goes_on<V>() -> u8
+    ensures { λ _. ⌜ Goes-on V ⌝ }
+{
+    0
+}
+
+// Every machine of a run is sound for every process.
+pub fn runs_are_sound<V>() -> u8
+    ensures { λ _. ⌜ Runs-sound V ⌝ }
+{
+    0
+}
+
+// At every step of a run without repeats in its KCSSs, a process stepped alone ends what it was asked within its bound.
+pub fn runs_finish<V>() -> u8
+    ensures { λ _. ⌜ Runs-finish V ⌝ }
 {
     0
 }
