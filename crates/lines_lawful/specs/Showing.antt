@@ -27,24 +27,24 @@ read-phase (Reset kept saved) = resets kept saved
 -- a READ
 pub data Shows-read {V : Type 0} : Running V → maybe.Option ℕ → relation.Phase V → Type 0 where
   shows-reading : (o : Operand V) (new : Option V) (s : ReadPhase V) (m c : ℕ) (f : Bool) (l : maybe.Option ℕ)
-    → Shows-read (runs Read (o ∷ []) new (Reading s) m c f) l (reading (o .location) (read-phase s))
+      → Shows-read (runs Read (o ∷ []) new (Reading s) m c f) l (reading (o .location) (read-phase s))
 
 -- an LL
 pub data Shows-ll {V : Type 0} : Running V → maybe.Option ℕ → relation.Phase V → Type 0 where
   shows-attempt : (o : Operand V) (new : Option V) (m c : ℕ)
-    → Shows-ll (runs Ll (o ∷ []) new Attempt m c false) maybe.none (attempt (for-ll (o .location)))
+      → Shows-ll (runs Ll (o ∷ []) new Attempt m c false) maybe.none (attempt (for-ll (o .location)))
   shows-again : (o : Operand V) (new : Option V) (m c : ℕ)
-    → Shows-ll (runs Ll (o ∷ []) new Attempt m c true) maybe.none (attempt-again (for-ll (o .location)))
+      → Shows-ll (runs Ll (o ∷ []) new Attempt m c true) maybe.none (attempt-again (for-ll (o .location)))
   shows-linking : (o : Operand V) (new : Option V) (s : ReadPhase V) (m c : ℕ) (f : Bool)
-    → Shows-ll (runs Ll (o ∷ []) new (Linking s) m c f) maybe.none (linking (for-ll (o .location)) (read-phase s))
+      → Shows-ll (runs Ll (o ∷ []) new (Linking s) m c f) maybe.none (linking (for-ll (o .location)) (read-phase s))
   shows-save : (o : Operand V) (new : Option V) (v : V) (m c : ℕ) (f : Bool)
-    → Shows-ll (runs Ll (o ∷ []) new (Save (Value v)) m c f) maybe.none (to-save (for-ll (o .location)) v)
+      → Shows-ll (runs Ll (o ∷ []) new (Save (Value v)) m c f) maybe.none (to-save (for-ll (o .location)) v)
   shows-mark : (o : Operand V) (new : Option V) (v : V) (m c : ℕ) (f : Bool)
-    → Shows-ll (runs Ll (o ∷ []) new (Mark (Value v)) m c f) maybe.none (to-mark (for-ll (o .location)) v)
+      → Shows-ll (runs Ll (o ∷ []) new (Mark (Value v)) m c f) maybe.none (to-mark (for-ll (o .location)) v)
   shows-note : (o : Operand V) (new : Option V) (v : V) (m c : ℕ) (f : Bool)
-    → Shows-ll (runs Ll (o ∷ []) new (Note (Value v)) m c f) maybe.none (to-note (for-ll (o .location)) v m)
+      → Shows-ll (runs Ll (o ∷ []) new (Note (Value v)) m c f) maybe.none (to-note (for-ll (o .location)) v m)
 
 -- an SC
 pub data Shows-sc {V : Type 0} : Running V → maybe.Option ℕ → relation.Phase V → Type 0 where
   shows-swap : (o : Operand V) (u : V) (m c : ℕ) (f : Bool)
-    → Shows-sc (runs Sc (o ∷ []) (Some u) Swap m c f) maybe.none (swap-sc (o .location) u)
+      → Shows-sc (runs Sc (o ∷ []) (Some u) Swap m c f) maybe.none (swap-sc (o .location) u)

@@ -30,21 +30,21 @@ module _ {V : Type 0} (Shows : Showing V) (t p n b : ℕ) (l : maybe.Option ℕ)
   -- that the code has for it.
   abbrev pub Leads : Running V → Finding V → Turn V → Process V → maybe.Option (Done V) → Type 0
   Leads (runs kind operands new phase m c f) found (turn.On phase′ milestone) r d =
-    (ph : Phase V) × (r ≡ proc (raised phase n) l b ph) × (d ≡ maybe.none)
-    × Shows (runs kind (recorded found operands) new phase′ (marked-after milestone t m) (collected-after milestone t c) (fails phase)) l ph
+      (ph : Phase V) × (r ≡ proc (raised phase n) l b ph) × (d ≡ maybe.none)
+      × Shows (runs kind (recorded found operands) new phase′ (marked-after milestone t m) (collected-after milestone t c) (fails phase)) l ph
   Leads (runs kind operands new phase m c f) found (turn.Ends answer effect) r d =
-    (q : Request V) × (a : Answer V) × (r ≡ proc n (link-after kind operands l) b resting)
-    × (request-of kind operands new ≡ Some q) × (answer-of answer (recorded found operands) ≡ Some a)
-    × (d ≡ maybe.some (done q a (effect-step effect t m c)))
+      (q : Request V) × (a : Answer V) × (r ≡ proc n (link-after kind operands l) b resting)
+      × (request-of kind operands new ≡ Some q) × (answer-of answer (recorded found operands) ≡ Some a)
+      × (d ≡ maybe.some (done q a (effect-step effect t m c)))
 
   -- The code has a next access. Whatever that sees in the world, if the code then has a finding and a turn, there is a line
   -- of the relation whose event leaves the cells as the access does, and which leads where the code goes.
   abbrev pub Steps : (V → ℕ) → World V → Running V → Phase V → Type 0
   Steps code w (runs kind operands new phase m c f) ph =
-    Gives (next-access code (record { process = p; tag = raised phase n }) kind operands new phase) (λ next.
-    Performing w (next .1) (λ seen cells.
-    When (finding-of phase seen) (λ found.
-    When (turn-of code kind (recorded found operands) phase seen) (λ to.
+      Gives (next-access code (record { process = p; tag = raised phase n }) kind operands new phase) (λ next.
+      Performing w (next .1) (λ seen cells.
+      When (finding-of phase seen) (λ found.
+      When (turn-of code kind (recorded found operands) phase seen) (λ to.
       (e : Event V) × (r : Process V) × (d : maybe.Option (Done V)) × Line t p w (proc n l b ph) e r d
       × (cells-of (after e w) ≡ cells) × Leads (runs kind operands new phase m c f) found to r d))))
 
@@ -52,4 +52,4 @@ module _ {V : Type 0} (Shows : Showing V) (t p n b : ℕ) (l : maybe.Option ℕ)
 -- that has the process's tag.
 abbrev pub Makes-lines : {V : Type 0} → (V → ℕ) → Showing V → Type 0
 Makes-lines {V = V} code Shows = (t p n b : ℕ) (l : maybe.Option ℕ) (w : World V) (running : Running V) (ph : Phase V)
-  → w .tag p ≡ n → Shows running l ph → Steps Shows t p n b l code w running ph
+    → w .tag p ≡ n → Shows running l ph → Steps Shows t p n b l code w running ph

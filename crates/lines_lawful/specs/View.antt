@@ -63,7 +63,7 @@ abbrev pub Performing : {V : Type 0} → World V → Access V → (Seen V → Ce
 Performing w (Load place) P = P (Found (cell-at w place)) (cells-of w)
 Performing w (Store place c) P = P Stored (put w place c)
 Performing w (Cas place old new) P =
-  (cell-at w place ≡ old → P (Said true) (put w place new)) × ((cell-at w place ≡ old → ⊥) → P (Said false) (cells-of w))
+    (cell-at w place ≡ old → P (Said true) (put w place new)) × ((cell-at w place ≡ old → ⊥) → P (Said false) (cells-of w))
 
 -- There is something, and it is as P says.
 abbrev pub Gives : {A : Type 0} → Option A → (A → Type 0) → Type 0
@@ -82,24 +82,44 @@ at-operand zero f (o ∷ rest) = f o ∷ rest
 at-operand (suc i) f (o ∷ rest) = o ∷ at-operand i f rest
 
 abbrev pub put-first : {V : Type 0} → V → Operand V → Operand V
-put-first v o = record
-  { location = o .location; expected = o .expected; first = Some v; second = o .second
-  ; «first_id» = o .«first_id»; «second_id» = o .«second_id» }
+put-first v o = record {
+  location = o .location;
+  expected = o .expected;
+  first = Some v;
+  second = o .second;
+  «first_id» = o .«first_id»;
+  «second_id» = o .«second_id»;
+}
 
 abbrev pub put-second : {V : Type 0} → V → Operand V → Operand V
-put-second v o = record
-  { location = o .location; expected = o .expected; first = o .first; second = Some v
-  ; «first_id» = o .«first_id»; «second_id» = o .«second_id» }
+put-second v o = record {
+  location = o .location;
+  expected = o .expected;
+  first = o .first;
+  second = Some v;
+  «first_id» = o .«first_id»;
+  «second_id» = o .«second_id»;
+}
 
 abbrev pub put-first-id : {V : Type 0} → TaggedId → Operand V → Operand V
-put-first-id i o = record
-  { location = o .location; expected = o .expected; first = o .first; second = o .second
-  ; «first_id» = i; «second_id» = o .«second_id» }
+put-first-id i o = record {
+  location = o .location;
+  expected = o .expected;
+  first = o .first;
+  second = o .second;
+  «first_id» = i;
+  «second_id» = o .«second_id»;
+}
 
 abbrev pub put-second-id : {V : Type 0} → TaggedId → Operand V → Operand V
-put-second-id i o = record
-  { location = o .location; expected = o .expected; first = o .first; second = o .second
-  ; «first_id» = o .«first_id»; «second_id» = i }
+put-second-id i o = record {
+  location = o .location;
+  expected = o .expected;
+  first = o .first;
+  second = o .second;
+  «first_id» = o .«first_id»;
+  «second_id» = i;
+}
 
 abbrev pub recorded : {V : Type 0} → Finding V → List (Operand V) → List (Operand V)
 recorded finding.Nothing operands = operands
@@ -182,7 +202,7 @@ request-of Ll (o ∷ rest) new = Some (ll (o .location))
 request-of Sc (o ∷ rest) new = and-then new (λ u. Some (sc (o .location) u))
 request-of Snapshot (o ∷ rest) new = Some (snapshot (locations (o ∷ rest)))
 request-of Kcss (o ∷ rest) new =
-  and-then (wanted o) (λ e. and-then (all-wanted rest) (λ more. and-then new (λ u. Some (kcss e more u))))
+    and-then (wanted o) (λ e. and-then (all-wanted rest) (λ more. and-then new (λ u. Some (kcss e more u))))
 
 -- What it answers at its end.
 abbrev pub answer-of : {V : Type 0} → lines-answer.Answer → List (Operand V) → Option (Answer V)

@@ -3,6 +3,7 @@
 // nothing else.
 ghost use Rattle.lines_lawful.specs.Steps.{Makes-lines};
 ghost use Rattle.lines_lawful.specs.Showing.{Shows-read, Shows-ll, Shows-sc};
+ghost use Rattle.lines_lawful.specs.Collecting.{Shows-snapshot};
 use value::ValueKind;
 
 // Each step of a READ is a line of the relation.
@@ -22,6 +23,13 @@ pub fn lls_make_lines<V: ValueKind>() -> u8
 // The step of an SC is a line of the relation.
 pub fn scs_make_lines<V: ValueKind>() -> u8
     ensures { λ _. ⌜ Makes-lines {V = V} coded Shows-sc ⌝ }
+{
+    0
+}
+
+// Each step of a SNAPSHOT is a line of the relation.
+pub fn snapshots_make_lines<V: ValueKind>() -> u8
+    ensures { λ _. ⌜ Makes-lines {V = V} coded Shows-snapshot ⌝ }
 {
     0
 }
