@@ -1,3 +1,4 @@
 pub mod Small
 pub mod Fitting
+pub mod Compares
 pub mod Collects
