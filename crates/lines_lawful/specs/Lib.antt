@@ -2,3 +2,4 @@ pub mod View
 pub mod Steps
 pub mod Showing
 pub mod Collecting
+pub mod Single

@@ -4,6 +4,7 @@
 ghost use Rattle.lines_lawful.specs.Steps.{Makes-lines};
 ghost use Rattle.lines_lawful.specs.Showing.{Shows-read, Shows-ll, Shows-sc};
 ghost use Rattle.lines_lawful.specs.Collecting.{Shows-snapshot};
+ghost use Rattle.lines_lawful.specs.Single.{Shows-single};
 use value::ValueKind;
 
 // Each step of a READ is a line of the relation.
@@ -30,6 +31,13 @@ pub fn scs_make_lines<V: ValueKind>() -> u8
 // Each step of a SNAPSHOT is a line of the relation.
 pub fn snapshots_make_lines<V: ValueKind>() -> u8
     ensures { λ _. ⌜ Makes-lines {V = V} coded Shows-snapshot ⌝ }
+{
+    0
+}
+
+// Each step of a KCSS of one location is a line of the relation.
+pub fn single_kcss_make_lines<V: ValueKind>() -> u8
+    ensures { λ _. ⌜ Makes-lines {V = V} coded Shows-single ⌝ }
 {
     0
 }
