@@ -89,11 +89,11 @@ most-of : {V : Type 0} (val tid : ℕ → Cell V) (p : ℕ) (r : Process V) → 
 most-of val tid p (proc n l b ph) f = most val tid p n ph f
 
 pub measure : {V : Type 0} → Falls V
-measure {V = V} = record
-  { falls = λ t p N m e r l h. subst (λ (x : Process V). Left (turned m e p r .val) (turned m e p r .tid) p x N) (sym (changed-here (m .processes) p r)) (fall N l refl h)
-  ; not-zero = λ p m h. some-of (m .val) (m .tid) p (m .processes p) h
-  ; within-bound = λ p m f. most-of (m .val) (m .tid) p (m .processes p) f
-  }
+measure {V = V} = record {
+  falls = λ t p N m e r l h. subst (λ (x : Process V). Left (turned m e p r .val) (turned m e p r .tid) p x N) (sym (changed-here (m .processes) p r)) (fall N l refl h);
+  not-zero = λ p m h. some-of (m .val) (m .tid) p (m .processes p) h;
+  within-bound = λ p m f. most-of (m .val) (m .tid) p (m .processes p) f;
+}
 
 fewer : {V : Type 0} (p N M : ℕ) (m : Machine V) → Remaining m p M → Alone p N m → N < M
 fewer p N zero m h a = absurd (measure .not-zero p m h)

@@ -89,12 +89,13 @@ begun-sound no-more S = S
 begun-sound {V = V} (and-then {m′ = b} more p q r s) S = again (begun-sound more S)
   where
     again : All-sound b → All-sound (record { val = b .val; tid = b .tid; saved = b .saved; processes = changed (b .processes) p r })
-    again (c, h) =
-        (record { vals = c .vals; tids = c .tids },
-         λ j. elim (ℕ-discrete j p)
-           [ yes i ↦ subst (λ (x : Process V). Process-sound (b .saved) j x) (sym (ap (changed (b .processes) p r) i ∙ changed-here (b .processes) p r)) (begins-sound (b .saved) j s)
-           | no n ↦ subst (λ (x : Process V). Process-sound (b .saved) j x) (sym (changed-else (b .processes) p r j n)) (h j)
-           ])
+    again (c, h) = (
+      record { vals = c .vals; tids = c .tids },
+      λ j. elim (ℕ-discrete j p) [
+        | yes i ↦ subst (λ (x : Process V). Process-sound (b .saved) j x) (sym (ap (changed (b .processes) p r) i ∙ changed-here (b .processes) p r)) (begins-sound (b .saved) j s)
+        | no n ↦ subst (λ (x : Process V). Process-sound (b .saved) j x) (sym (changed-else (b .processes) p r j n)) (h j)
+      ],
+    )
 
 call-sound : {V : Type 0} {t q : ℕ} {m m′ : Machine V} {list : List (Given V)} {e : Event V} {d : Option _} → Call t q m m′ list e d → All-sound m → All-sound m′
 call-sound {V = V} (pauses i) S = subst (λ (x : Machine V). All-sound x) (sym i) S
@@ -103,22 +104,24 @@ call-sound {V = V} {t = t} {q = q} (steps list b g r e d l i) S = subst (λ (x :
     go : All-sound b → All-sound (turned b e q r)
     go (c, h) =
         let f = fine c l (h q) in
-        let k = cells-after (world b) c e (f .0) in
-        (record { vals = k .vals; tids = k .tids },
-         λ j. elim (ℕ-discrete j q)
-           [ yes i ↦
-               subst (λ (x : ℕ). Process-sound (after e (world b) .saved) x (changed (b .processes) q r x)) (sym i)
-                 (subst (λ (x : Process V). Process-sound (after e (world b) .saved) q x) (sym (changed-here (b .processes) q r)) (f .1))
-           | no n ↦
-               subst (λ (x : Process V). Process-sound (after e (world b) .saved) j x) (sym (changed-else (b .processes) q r j n))
-                 (others (world b) c e j (λ u. n (u ∙ one-event t q b e r d l .made-by)) (b .processes j) (h j))
-           ])
+        let k = cells-after (world b) c e (f .0) in (
+          record { vals = k .vals; tids = k .tids },
+          λ j. elim (ℕ-discrete j q) [
+            | yes i ↦
+                subst (λ (x : ℕ). Process-sound (after e (world b) .saved) x (changed (b .processes) q r x)) (sym i)
+                (subst (λ (x : Process V). Process-sound (after e (world b) .saved) q x) (sym (changed-here (b .processes) q r)) (f .1))
+            | no n ↦
+                subst (λ (x : Process V). Process-sound (after e (world b) .saved) j x) (sym (changed-else (b .processes) q r j n))
+                (others (world b) c e j (λ u. n (u ∙ one-event t q b e r d l .made-by)) (b .processes j) (h j))
+          ],
+        )
 
 pub runs-sound : {V : Type 0} → Runs-sound V
 runs-sound {V = V} run t p = let S = all t in record { cells = S .0; process = S .1 p }
   where
     all : (t : ℕ) → All-sound (run .at t)
-    all zero =
-        (record { vals = λ a k e. (let x = run .vals a in clash (cc)); tids = λ a. (record { process = 0; tag = 0 }, run .tids a) },
-         λ p. subst (λ (x : Process V). Process-sound (run .at 0 .saved) p x) (sym (run .rested p)) tt)
+    all zero = (
+      record { vals = λ a k e. (let x = run .vals a in clash (cc)); tids = λ a. (record { process = 0; tag = 0 }, run .tids a) },
+      λ p. subst (λ (x : Process V). Process-sound (run .at 0 .saved) p x) (sym (run .rested p)) tt,
+    )
     all (suc t) = call-sound (run .call t) (all t)

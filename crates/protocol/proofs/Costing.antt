@@ -43,18 +43,18 @@ module _ {V : Type 0} (val : ℕ → Cell V) (rows : Rows V) where
   pub costs-but : (i k : ℕ) → i < k → costs val rows k + 5 ≤ 5 * k + cost (val (rows i .location))
   costs-but i zero l = absurd (omega arith)
   costs-but i (suc k) l =
-      elim (ℕ-discrete i k)
-        [ yes e ↦ let c = ap (λ j. cost (val (rows j .location))) e in let h = costs-high k in omega arith
+      elim (ℕ-discrete i k) [
+        | yes e ↦ let c = ap (λ j. cost (val (rows j .location))) e in let h = costs-high k in omega arith
         | no n ↦ let h = costs-but i k (omega arith) in let c = high (val (rows k .location)) in omega arith
-        ]
+      ]
 
   pub costs-above : (i k : ℕ) → i < k → cost (val (rows i .location)) ≤ costs val rows k
   costs-above i zero l = absurd (omega arith)
   costs-above i (suc k) l =
-      elim (ℕ-discrete i k)
-        [ yes e ↦ let c = ap (λ j. cost (val (rows j .location))) e in omega arith
+      elim (ℕ-discrete i k) [
+        | yes e ↦ let c = ap (λ j. cost (val (rows j .location))) e in omega arith
         | no n ↦ let h = costs-above i k (omega arith) in omega arith
-        ]
+      ]
 
   pub costs-plain : (k : ℕ) → Firsts-stand val rows k → costs val rows k ≤ k
   costs-plain zero f = omega arith
@@ -96,14 +96,14 @@ module _ {V : Type 0} {val val′ : ℕ → Cell V} {a : ℕ} (C : Calm val val�
   pub costs-drop : (i k : ℕ) → i < k → costs val′ rows k + cost (val (rows i .location)) ≤ costs val rows k + cost (val′ (rows i .location))
   costs-drop i zero l = absurd (omega arith)
   costs-drop i (suc k) l =
-      elim (ℕ-discrete i k)
-        [ yes e ↦
+      elim (ℕ-discrete i k) [
+        | yes e ↦
             let c = ap (λ j. cost (val (rows j .location))) e in
             let d = ap (λ j. cost (val′ (rows j .location))) e in
             let h = costs-lower k in
             omega arith
         | no n ↦ let h = costs-drop i k (omega arith) in let c = C .lower (rows k .location) in omega arith
-        ]
+      ]
 
 pub beyond-lower : {V : Type 0} {val val′ : ℕ → Cell V} {a : ℕ} → Calm val val′ a → (J : Job V) → beyond val′ J ≤ beyond val J
 beyond-lower C (for-ll a) = omega arith
@@ -122,7 +122,7 @@ beyond-off val new (for-kcss a x u rows k) f = let h = costs-off val a new rows 
 
 -- a mark elsewhere stays
 pub rest-calm : {V : Type 0} {val val′ : ℕ → Cell V} (p n i k E : ℕ) (rows : Rows V) (F : Purpose V) → Calm val val′ (rows i .location) → i < k
-                → Purpose-fits F rows k → Rest val p n F k E → Rest val′ p n F k E
+    → Purpose-fits F rows k → Rest val p n F k E → Rest val′ p n F k E
 rest-calm p n i k E rows solo C l f R = R
 rest-calm p n i k E rows (inside a x u v t8) C l f (inl e) = inl e
 rest-calm p n i k E rows (inside a x u v t8) C l f (inr (m, e)) = inr (C .elsewhere a (λ h. f i l (sym h)) ∙ m, e)
@@ -140,17 +140,17 @@ module _ {V : Type 0} {w : World V} {p a : ℕ} where
 
       lower : (b : ℕ) → cost (changed (w .val) a (Value v) b) ≤ cost (w .val b)
       lower b =
-          elim (ℕ-discrete b a)
-            [ yes e ↦ let c : cost (changed (w .val) a (Value v) b) ≡ 1 = ap cost (now b e) in let d = low (w .val b) in omega arith
+          elim (ℕ-discrete b a) [
+            | yes e ↦ let c : cost (changed (w .val) a (Value v) b) ≡ 1 = ap cost (now b e) in let d = low (w .val b) in omega arith
             | no n ↦ let c = ap cost (changed-else (w .val) a (Value v) b n) in omega arith
-            ]
+          ]
 
       keeps : (b : ℕ) (y : V) → w .val b ≡ Value y → changed (w .val) a (Value v) b ≡ Value y
       keeps b y h =
-          elim (ℕ-discrete b a)
-            [ yes e ↦ (let m = ap (w .val) e in clash (cc))
+          elim (ℕ-discrete b a) [
+            | yes e ↦ (let m = ap (w .val) e in clash (cc))
             | no n ↦ changed-else (w .val) a (Value v) b n ∙ h
-            ]
+          ]
   calm (line-3b-no k v x) = still (w .val) a
 
   pub read-tids : {s s′ : ReadPhase V} {e : Event V} → ReadLine w p a s e (on s′) → (b : ℕ) → after e w .tid b ≡ w .tid b

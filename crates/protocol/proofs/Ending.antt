@@ -50,17 +50,18 @@ module _ {V : Type 0} (R : Run V) where
 
   seen-wants : (f : ℕ) (rows : Rows V) (i k n : ℕ) → i + k ≡ n → Rowed f rows i n → Meets rows n → Seen-expected (history R) f (wants rows i k)
   seen-wants f rows i zero n e h m = tt
-  seen-wants f rows i (suc k) n e h m =
-      ( subst (Seen (history R) f (rows i .location)) (m i (omega arith)) (let x = h i (omega arith) (omega arith) in seen-row f (rows i) (x .0) (x .1))
-      , seen-wants f rows (suc i) k n (omega arith) (λ j a b. h j (omega arith) b) m )
+  seen-wants f rows i (suc k) n e h m = (
+    subst (Seen (history R) f (rows i .location)) (m i (omega arith)) (let x = h i (omega arith) (omega arith) in seen-row f (rows i) (x .0) (x .1)),
+    seen-wants f rows (suc i) k n (omega arith) (λ j a b. h j (omega arith) b) m,
+  )
 
   seen-other : (f : ℕ) (rows : Rows V) (i k n j : ℕ) → i + k ≡ n → Rowed f rows i n → i ≤ j → j < n → (rows j .first ≡ rows j .expected → ⊥) → Seen-differing (history R) f (wants rows i k)
   seen-other f rows i zero n j e h l l′ m = absurd (omega arith)
   seen-other f rows i (suc k) n j e h l l′ m =
-      elim (ℕ-discrete j i)
-        [ yes q ↦ inl (rows i .first, (let x = h i (omega arith) (omega arith) in seen-row f (rows i) (x .0) (x .1)), subst (λ x. rows x .first ≡ rows x .expected → ⊥) q m)
+      elim (ℕ-discrete j i) [
+        | yes q ↦ inl (rows i .first, (let x = h i (omega arith) (omega arith) in seen-row f (rows i) (x .0) (x .1)), subst (λ x. rows x .first ≡ rows x .expected → ⊥) q m)
         | no q ↦ inr (seen-other f rows (suc i) k n j (omega arith) (λ x a b. h x (omega arith) b) (omega arith) l′ m)
-        ]
+      ]
 
   pub record Sc-ends (t p b f a : ℕ) (u : V) (y : Bool) : Type 0 where
     pub n : ℕ
@@ -104,7 +105,7 @@ module _ {V : Type 0} (R : Run V) where
   mine-e k = record { by = k .minef; past = (let h = k .early in omega arith); clear = k .clearf; begun = k .begunf }
 
   pub line-ends : (t p : ℕ) {r r′ : Process V} {e : Event V} {d : Option (Done V)} → Line t p (W R t) r e r′ d → R .event t ≡ e → Moves R t p
-              → W R t .tag p ≡ tag-of r → W R t .stage p ≡ stage-of r → PInv R t p r → Ends t p (since-of r) d
+      → W R t .tag p ≡ tag-of r → W R t .stage p ≡ stage-of r → PInv R t p r → Ends t p (since-of r) d
   line-ends t p (read-on x) ev w g s i = tt
   line-ends t p (read-got x) ev w g s i = (mine-now t p w (i .2), (_, refl, sub-own R x (i .1)))
   line-ends t p (attempt-value x) ev w g s i = tt
@@ -132,19 +133,29 @@ module _ {V : Type 0} (R : Run V) where
   line-ends t p (s9-on x) ev w g s i = tt
   line-ends t p (s9-again x y z) ev w g s i = tt
   line-ends t p (s9-solo {rows = rows} {rows′ = rows′} {k = k} {f = f} {i = j} z y a) ev w g s h =
-      let m = h .1 .4 .0 in
-      ( record { by = m .1; past = (let q = m .0 in omega arith); clear = m .2; begun = m .3 }
-      , seen-answers f rows′ 0 k k (omega arith) (λ x _ l. (subst (λ (rr : Rows V). F9 R f (rr x)) (sym y)
-          (more (F9 R f) rows j _ (h .1 .3) (to-9 R t f (rows j) (let q = m .0 in omega arith) (h .1 .2 j (h .1 .1))) x (omega arith)), a x l .0)) )
+      let m = h .1 .4 .0 in (
+        record { by = m .1; past = (let q = m .0 in omega arith); clear = m .2; begun = m .3 },
+        seen-answers f rows′ 0 k k (omega arith) (λ x _ l. (
+          subst (λ (rr : Rows V). F9 R f (rr x)) (sym y)
+              (more (F9 R f) rows j _ (h .1 .3) (to-9 R t f (rows j) (let q = m .0 in omega arith) (h .1 .2 j (h .1 .1))) x (omega arith)),
+          a x l .0,
+        )),
+      )
   line-ends t p (s9-inside x y z) ev w g s i = tt
   line-ends t p (kcss-one x y) ev w g s i =
       let k = i .1 .0 in
       (mine-now t p w (i .2), record { commits = ev; same-tag = refl; noted = s; expected = k .keeps ∙ ap Value x; seen = tt })
   line-ends t p (kcss-yes {rows = rows} {k = k} {f = f} x z y) ev w g s i =
-      let e = i .1 .1 (omega arith) in
-      ( mine-e e
-      , record { commits = ev; same-tag = e .tagf ∙ sym g; noted = e .stood; expected = e .savedf ∙ ap Value x
-               ; seen = seen-wants f rows 0 (suc k) (suc k) (omega arith) (λ x _. i .1 .2 x) z } )
+      let e = i .1 .1 (omega arith) in (
+        mine-e e,
+        record {
+          commits = ev;
+          same-tag = e .tagf ∙ sym g;
+          noted = e .stood;
+          expected = e .savedf ∙ ap Value x;
+          seen = seen-wants f rows 0 (suc k) (suc k) (omega arith) (λ x _. i .1 .2 x) z;
+        },
+      )
   line-ends t p (kcss-retry x z y) ev w g s i = tt
   line-ends t p (kcss-first {v = v} x y) ev w g s i = (mine-8 (i .1 .0), inl (v, i .1 .0 .marks, x))
   line-ends t p (kcss-first-gone {v = v} x y) ev w g s i = (mine-8 (i .1 .0), inl (v, i .1 .0 .marks, x))

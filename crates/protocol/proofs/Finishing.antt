@@ -50,8 +50,8 @@ module _ {V : Type 0} (R : Run V) where
   call-whole : (t : ℕ) {list : List (Given V)} {e : Event V} {d : Option (Done V)} → Call t (R .who t) (R .at t) (R .at (suc t)) list e d → R .event t ≡ e → R .starts t ≡ list → R .out t ≡ d → Whole t d
   call-whole t (steps list b y r e d l x) ev s o =
       gather t (b .processes (R .who t)) r d
-        (line-ends R t (R .who t) (its-line R t (R .who t) y l) ev (refl, makes R t s ev o (b, r, y, l)) (its-tag R t (R .who t) y) (its-stage R t (R .who t) y) (begun-knows R t y (knows R t) (R .who t)))
-        (keeps l) (after-starts R t s y (was-asked R t) (R .who t))
+      (line-ends R t (R .who t) (its-line R t (R .who t) y l) ev (refl, makes R t s ev o (b, r, y, l)) (its-tag R t (R .who t) y) (its-stage R t (R .who t) y) (begun-knows R t y (knows R t) (R .who t)))
+      (keeps l) (after-starts R t s y (was-asked R t) (R .who t))
   call-whole t (pauses x) ev s o = tt
 
   pub finishes : (t : ℕ) (q : Request V) (z : Answer V) (f : ℕ) → R .out t ≡ some (done q z f) → Over t q z f
@@ -73,10 +73,10 @@ module _ {V : Type 0} (R : Run V) where
   pub complete : (n c : ℕ) (q : Request V) (z : Answer V) (f : ℕ) → c < n → R .out c ≡ some (done q z f) → fin c (R .who c) q z f ∈ finished R n
   complete zero c q z f h e = absurd (omega arith)
   complete (suc t) c q z f h e =
-      elim (ℕ-discrete c t)
-        [ yes i ↦ subst (λ x. fin c (R .who c) q z f ∈ with-ended (R .who t) t x (finished R t)) (sym (ap (R .out) (sym i) ∙ e)) (inl (ap (λ x. fin x (R .who x) q z f) i))
+      elim (ℕ-discrete c t) [
+        | yes i ↦ subst (λ x. fin c (R .who c) q z f ∈ with-ended (R .who t) t x (finished R t)) (sym (ap (R .out) (sym i) ∙ e)) (inl (ap (λ x. fin x (R .who x) q z f) i))
         | no i ↦ past (R .out t) (complete t c q z f (omega arith) e)
-        ]
+      ]
     where
       past : (x : Option (Done V)) → fin c (R .who c) q z f ∈ finished R t → fin c (R .who c) q z f ∈ with-ended (R .who t) t x (finished R t)
       past none m = m

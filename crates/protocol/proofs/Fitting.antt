@@ -29,10 +29,10 @@ module _ {V : Type 0} where
   off-wants : (a : ℕ) (rows : Rows V) (i k : ℕ) → Not-among a (wants rows i k) → (j : ℕ) → i ≤ j → j < i + k → rows j .location ≡ a → ⊥
   off-wants a rows i zero h j l m e = omega arith
   off-wants a rows i (suc k) (n, h) j l m e =
-      elim (ℕ-discrete j i)
-        [ yes q ↦ n (ap (λ x. rows x .location) (sym q) ∙ e)
+      elim (ℕ-discrete j i) [
+        | yes q ↦ n (ap (λ x. rows x .location) (sym q) ∙ e)
         | no q ↦ off-wants a rows (suc i) k h j (omega arith) (omega arith) e
-        ]
+      ]
 
   starts-fit : {t : ℕ} {r r′ : Process V} {q : Request V} → Begins t r q r′ → No-repeat q → Fits r′
   starts-fit (begins-read a) h = tt
@@ -112,9 +112,9 @@ module _ {V : Type 0} where
   as-asked (proc n l b ph) q e = of-phase ph q e
 
   pub asked-bounds : Asked-bounds V
-  asked-bounds = record
-    { as-asked = as-asked
-    ; starts-fit = λ t r r′ q b h. starts-fit b h
-    ; lines-fit = λ t p w r r′ e l f. lines-fit l f
-    ; ends-asked = λ p N m q f e a. let h = bounds .ends p N m f a in let c = as-asked (m .processes p) q e in omega arith
-    }
+  asked-bounds = record {
+    as-asked = as-asked;
+    starts-fit = λ t r r′ q b h. starts-fit b h;
+    lines-fit = λ t p w r r′ e l f. lines-fit l f;
+    ends-asked = λ p N m q f e a. let h = bounds .ends p N m f a in let c = as-asked (m .processes p) q e in omega arith;
+  }

@@ -80,8 +80,8 @@ module _ {V : Type 0} (R : Run V) where
   -- given nothing in the list, or given its request there
   abbrev Dealt : ℕ → List (Given V) → ℕ → Process V → Type 0
   Dealt t list p r =
-    (((q : Request V) → Was-given p q list → ⊥) × Before t p r)
-    ⊎ ((q : Request V) × (asked r ≡ some q) × (since-of r ≡ t) × Was-given p q list)
+      (((q : Request V) → Was-given p q list → ⊥) × Before t p r)
+      ⊎ ((q : Request V) × (asked r ≡ some q) × (since-of r ≡ t) × Was-given p q list)
 
   began : (t p : ℕ) (list : List (Given V)) {q : Request V} {r r′ : Process V} → Begins t r q r′ → Dealt t (given p q ∷ list) p r′
   began t p list (begins-read a) = inr (_, refl, refl, inl refl)
@@ -105,21 +105,24 @@ module _ {V : Type 0} (R : Run V) where
 
   -- once the Starts of step t are told
   told : (t p b : ℕ) (list : List (Given V)) → R .starts t ≡ list → (x : Option (Request V))
-         → (((q : Request V) → Was-given p q list → ⊥) × Runs t t p b x) ⊎ ((q : Request V) × (x ≡ some q) × (b ≡ t) × Was-given p q list)
-         → Runs (suc t) t p b x
+      → (((q : Request V) → Was-given p q list → ⊥) × Runs t t p b x) ⊎ ((q : Request V) × (x ≡ some q) × (b ≡ t) × Was-given p q list)
+      → Runs (suc t) t p b x
   told t p b list e none i = tt
-  told t p b list e (some q) (inl i) =
-      ( i .1 .0
-      , (λ c q′ h l w. elim (ℕ-discrete c t)
-          [ yes z ↦ i .0 q′ (subst (Was-given p q′) (ap (R .starts) z ∙ e) w)
-          | no z ↦ i .1 .1 c q′ h (omega arith) w ])
-      , i .1 .2 )
+  told t p b list e (some q) (inl i) = (
+    i .1 .0,
+    (λ c q′ h l w. elim (ℕ-discrete c t) [
+      | yes z ↦ i .0 q′ (subst (Was-given p q′) (ap (R .starts) z ∙ e) w)
+      | no z ↦ i .1 .1 c q′ h (omega arith) w
+    ]),
+    i .1 .2,
+  )
   told t p b list e (some q) (inr i) =
       let z : i .0 ≡ q = cc (i .1) in
-      let y = i .2 in
-      ( subst (λ x. Was-given p x (R .starts b)) z (subst (Was-given p (i .0)) (sym (ap (R .starts) y ∙ e)) (i .3))
-      , (λ c q′ h l w. absurd (omega arith))
-      , (λ c h l w. absurd (omega arith)) )
+      let y = i .2 in (
+        subst (λ x. Was-given p x (R .starts b)) z (subst (Was-given p (i .0)) (sym (ap (R .starts) y ∙ e)) (i .3)),
+        (λ c q′ h l w. absurd (omega arith)),
+        (λ c h l w. absurd (omega arith)),
+      )
 
   pub after-starts : (t : ℕ) {m b : Machine V} {list : List (Given V)} → R .starts t ≡ list → Begun t m list b → ((p : ℕ) → Before t p (m .processes p)) → (p : ℕ) → After t p (b .processes p)
   after-starts t {b = b} {list = list} e y ih p = told t p (since-of (b .processes p)) list e (asked (b .processes p)) (dealt t y ih p)
@@ -135,15 +138,15 @@ module _ {V : Type 0} (R : Run V) where
   by-line t p r r′ (some (done q z f)) o e k i = subst (Runs (suc t) (suc t) p (since-of r′)) (sym (k .1)) tt
 
   step-gives : (t : ℕ) {list : List (Given V)} {e : Event V} {d : Option (Done V)} → Call t (R .who t) (R .at t) (R .at (suc t)) list e d → R .starts t ≡ list → R .out t ≡ d
-               → ((p : ℕ) → Before t p (R .at t .processes p)) → (p : ℕ) → Before (suc t) p (R .at (suc t) .processes p)
+      → ((p : ℕ) → Before t p (R .at t .processes p)) → (p : ℕ) → Before (suc t) p (R .at (suc t) .processes p)
   step-gives t (steps list b y r e d l x) s o ih p =
       subst (Before (suc t) p) (sym (ap (λ m. m .processes p) x))
-        (at-move (Before (suc t)) (b .processes) (R .who t) r
-          (by-line t (R .who t) (b .processes (R .who t)) r d o (since-same l) (keeps l) (after-starts t s y ih (R .who t)))
-          (λ q h. goes-on t q (since-of (b .processes q)) (asked (b .processes q)) (λ w. absurd (h (sym w))) (after-starts t s y ih q)) p)
+      (at-move (Before (suc t)) (b .processes) (R .who t) r
+      (by-line t (R .who t) (b .processes (R .who t)) r d o (since-same l) (keeps l) (after-starts t s y ih (R .who t)))
+      (λ q h. goes-on t q (since-of (b .processes q)) (asked (b .processes q)) (λ w. absurd (h (sym w))) (after-starts t s y ih q)) p)
   step-gives t (pauses x) s o ih p =
       subst (Before (suc t) p) (sym (ap (λ m. m .processes p) x))
-        (goes-on t p (since-of (R .at t .processes p)) (asked (R .at t .processes p)) (λ w. o) (after-starts t {m = R .at t} {b = R .at t} s no-more ih p))
+      (goes-on t p (since-of (R .at t .processes p)) (asked (R .at t .processes p)) (λ w. o) (after-starts t {m = R .at t} {b = R .at t} s no-more ih p))
 
   pub was-asked : (t p : ℕ) → Before t p (R .at t .processes p)
   was-asked zero p = subst (Before 0 p) (sym (R .rested p)) tt

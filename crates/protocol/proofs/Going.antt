@@ -152,10 +152,10 @@ module _ {V : Type 0} (R : Run V) where
       at-move (λ _. Unlinked) (m′ .processes) q r (unlinked-start y) (λ z h. unlinked-begun t x ih z) p
 
   unlinked-step : (t : ℕ) {list : List (Given V)} {e : Event V} {d : Option (Done V)} → Call t (R .who t) (R .at t) (R .at (suc t)) list e d
-                  → ((p : ℕ) → Unlinked (R .at t .processes p)) → (p : ℕ) → Unlinked (R .at (suc t) .processes p)
+      → ((p : ℕ) → Unlinked (R .at t .processes p)) → (p : ℕ) → Unlinked (R .at (suc t) .processes p)
   unlinked-step t (steps list b y r e d l x) ih p =
       subst Unlinked (sym (ap (λ m. m .processes p) x))
-        (at-move (λ _. Unlinked) (b .processes) (R .who t) r (unlinked-line l (unlinked-begun t y ih (R .who t))) (λ q h. unlinked-begun t y ih q) p)
+      (at-move (λ _. Unlinked) (b .processes) (R .who t) r (unlinked-line l (unlinked-begun t y ih (R .who t))) (λ q h. unlinked-begun t y ih q) p)
   unlinked-step t (pauses x) ih p = subst Unlinked (sym (ap (λ m. m .processes p) x)) (ih p)
 
   pub unlinked : (t p : ℕ) → Unlinked (R .at t .processes p)
@@ -168,8 +168,8 @@ module _ {V : Type 0} (R : Run V) where
       let m = marked (history R) (i .0) a (k .process) (k .tag) (i .2) in
       let h = i .1 in
       lasts (λ x. (v : V) × (W R x .saved (k .process) ≡ Value v)) (i .0)
-        (λ x _ y. let z = saved-after (R .event x) (W R x) (k .process) (y .0) (y .1) in (z .0, ap (λ w. w .saved (k .process)) (turns R x) ∙ z .1))
-        (m .value, m .keeps) t (omega arith)
+      (λ x _ y. let z = saved-after (R .event x) (W R x) (k .process) (y .0) (y .1) in (z .0, ap (λ w. w .saved (k .process)) (turns R x) ∙ z .1))
+      (m .value, m .keeps) t (omega arith)
 
   module _ (decide : (x y : V) → Dec (x ≡ y)) (t p : ℕ) where
     abbrev Next : ℕ → ReadPhase V → Type 0
@@ -198,25 +198,25 @@ module _ {V : Type 0} (R : Run V) where
     from-note n b (for-kcss a x u rows (suc k)) v t8 = (_, _, _, line-9-more)
 
     from-first : (n b : ℕ) (l : Option ℕ) (F : Purpose V) (rows : Rows V) (k i : ℕ) (s : ReadPhase V) (e : Event V) (o : ReadTurn V)
-                 → ReadLine (W R t) p (rows i .location) s e o → Steps (proc n l b (first-collect F rows k i s))
+        → ReadLine (W R t) p (rows i .location) s e o → Steps (proc n l b (first-collect F rows k i s))
     from-first n b l F rows k i s e (on s′) x = (_, _, _, c1-on x)
     from-first n b l F rows k i s e (got v) x = elim (decLe (suc (suc i)) k) [ yes h ↦ (_, _, _, c1-got x h) | no h ↦ (_, _, _, c1-end x (omega arith)) ]
 
     from-second : (n b : ℕ) (l : Option ℕ) (F : Purpose V) (rows : Rows V) (k f i : ℕ) (s : ReadPhase V) (e : Event V) (o : ReadTurn V)
-                  → ReadLine (W R t) p (rows i .location) s e o → Steps (proc n l b (second-collect F rows k f i s))
+        → ReadLine (W R t) p (rows i .location) s e o → Steps (proc n l b (second-collect F rows k f i s))
     from-second n b l F rows k f i s e (on s′) x = (_, _, _, c2-on x)
     from-second n b l F rows k f i s e (got v) x = elim (decLe (suc (suc i)) k) [ yes h ↦ (_, _, _, c2-got x h) | no h ↦ (_, _, _, c2-end x (omega arith)) ]
 
     from-compare : (n b : ℕ) (l : Option ℕ) (F : Purpose V) (rows rows′ : Rows V) (k f i : ℕ) → k ≤ suc i
-                   → rows′ ≡ changed rows i (with-id-second (rows i) (W R t .tid (rows i .location)))
-                   → Same rows′ k ⊎ ((j : ℕ) × (j < k) × ((rows′ j .id-first ≡ rows′ j .id-second) × (rows′ j .first ≡ rows′ j .second) → ⊥)) → Steps (proc n l b (second-id F rows k f i))
+        → rows′ ≡ changed rows i (with-id-second (rows i) (W R t .tid (rows i .location)))
+        → Same rows′ k ⊎ ((j : ℕ) × (j < k) × ((rows′ j .id-first ≡ rows′ j .id-second) × (rows′ j .first ≡ rows′ j .second) → ⊥)) → Steps (proc n l b (second-id F rows k f i))
     from-compare n b l F rows rows′ k f i h e (inr x) = (_, _, _, s9-again h e (λ y. x .2 (y (x .0) (x .1))))
     from-compare n b l solo rows rows′ k f i h e (inl x) = (_, _, _, s9-solo h e x)
     from-compare n b l (inside a y u v t8) rows rows′ k f i h e (inl x) = (_, _, _, s9-inside h e x)
 
     from-swap : (n b a : ℕ) (x u v : V) (t8 : ℕ) (rows : Rows V) (k f : ℕ) → Dec (v ≡ x)
-                → Meets rows k ⊎ ((j : ℕ) × (j < k) × (rows j .first ≡ rows j .expected → ⊥)) → Dec (W R t .val a ≡ id-cell p n)
-                → Steps (proc n none b (swap a x u v t8 rows k f))
+        → Meets rows k ⊎ ((j : ℕ) × (j < k) × (rows j .first ≡ rows j .expected → ⊥)) → Dec (W R t .val a ≡ id-cell p n)
+        → Steps (proc n none b (swap a x u v t8 rows k f))
     from-swap n b a x u v t8 rows k f (no d) m (yes y) = (_, _, _, kcss-first d y)
     from-swap n b a x u v t8 rows k f (no d) m (no y) = (_, _, _, kcss-first-gone d y)
     from-swap n b a x u v t8 rows k f (yes d) (inr m) (yes y) = (_, _, _, kcss-other d (m .1) (m .2) y)
@@ -246,16 +246,16 @@ module _ {V : Type 0} (R : Run V) where
     goes n b l (first-collect F rows k i s) u h r = let x = read-next (rows i .location) s (h .2) in from-first n b l F rows k i s (x .0) (x .1) (x .2)
     goes n b l (second-collect F rows k f i s) u h r = let x = read-next (rows i .location) s (h .2) in from-second n b l F rows k f i s (x .0) (x .1) (x .2)
     goes n b l (second-id F rows k f i) u h r =
-        elim (decLe (suc (suc i)) k)
-          [ yes x ↦ (_, _, _, s9-on x)
+        elim (decLe (suc (suc i)) k) [
+          | yes x ↦ (_, _, _, s9-on x)
           | no x ↦ (let rows′ = changed rows i (with-id-second (rows i) (W R t .tid (rows i .location))) in
               from-compare n b l F rows rows′ k f i (omega arith) refl
-                (search (λ j. (rows′ j .id-first ≡ rows′ j .id-second) × (rows′ j .first ≡ rows′ j .second))
-                  (λ j. both (same-cell decide (rows′ j .id-first) (rows′ j .id-second)) (decide (rows′ j .first) (rows′ j .second))) k))
-          ]
+              (search (λ j. (rows′ j .id-first ≡ rows′ j .id-second) × (rows′ j .first ≡ rows′ j .second))
+              (λ j. both (same-cell decide (rows′ j .id-first) (rows′ j .id-second)) (decide (rows′ j .first) (rows′ j .second))) k))
+        ]
     goes n b l (swap a x v v′ t8 rows k f) u i r =
         none-of n b l (swap a x v v′ t8 rows k f) u
-          (from-swap n b a x v v′ t8 rows k f (decide v′ x) (search (λ j. rows j .first ≡ rows j .expected) (λ j. decide (rows j .first) (rows j .expected)) k) (same-cell decide (W R t .val a) (id-cell p n)))
+        (from-swap n b a x v v′ t8 rows k f (decide v′ x) (search (λ j. rows j .first ≡ rows j .expected) (λ j. decide (rows j .first) (rows j .expected)) k) (same-cell decide (W R t .val a) (id-cell p n)))
 
     steps-on : (r : Process V) → Unlinked r → PInv R t p r → (asked r ≡ none → ⊥) → Steps r
     steps-on (proc n l b ph) u i r = goes n b l ph u (i .1) r

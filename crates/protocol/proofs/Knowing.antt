@@ -32,20 +32,20 @@ later b t h = omega arith
 
 -- rows while one of them is set
 pub more : {V : Type 0} (P : Row V → Type 0) (rows : Rows V) (i : ℕ) (new : Row V) → ((j : ℕ) → j < i → P (rows j)) → P new
-       → (j : ℕ) → j < suc i → P (changed rows i new j)
+    → (j : ℕ) → j < suc i → P (changed rows i new j)
 more P rows i new old here j h =
-    elim (ℕ-discrete j i)
-      [ yes e ↦ subst P (sym (ap (changed rows i new) e ∙ changed-here rows i new)) here
+    elim (ℕ-discrete j i) [
+      | yes e ↦ subst P (sym (ap (changed rows i new) e ∙ changed-here rows i new)) here
       | no k ↦ subst P (sym (changed-else rows i new j k)) (old j (omega arith))
-      ]
+    ]
 
 pub hold : {V : Type 0} (P : Row V → Type 0) (rows : Rows V) (i : ℕ) (new : Row V) (k : ℕ) → ((j : ℕ) → j < k → P (rows j)) → i < k → (P (rows i) → P new)
-       → (j : ℕ) → j < k → P (changed rows i new j)
+    → (j : ℕ) → j < k → P (changed rows i new j)
 hold P rows i new k old l f j h =
-    elim (ℕ-discrete j i)
-      [ yes e ↦ subst P (sym (ap (changed rows i new) e ∙ changed-here rows i new)) (f (old i l))
+    elim (ℕ-discrete j i) [
+      | yes e ↦ subst P (sym (ap (changed rows i new) e ∙ changed-here rows i new)) (f (old i l))
       | no n ↦ subst P (sym (changed-else rows i new j n)) (old j h)
-      ]
+    ]
 
 module _ {V : Type 0} (R : Run V) where
   abbrev pub W : ℕ → World V
@@ -192,11 +192,23 @@ module _ {V : Type 0} (R : Run V) where
 
   pub h-still : {t p n a : ℕ} → Spares t p → Held t p n a → Held (suc t) p n a
   h-still {t = t} g k =
-      record
-        { e0 = k .e0; x = k .x; l0 = k .l0; early = (let h = k .early in omega arith); order = k .order; marks = k .marks; tag0 = k .tag0; out0 = k .out0; who0 = k .who0; clear0 = k .clear0; quiet0 = k .quiet0
-        ; since = λ c f q z h l w e. elim (ℕ-discrete c t)
-            [ yes i ↦ g q z f (ap (R .who) (sym i) ∙ w) (ap (R .out) (sym i) ∙ e)
-            | no i ↦ k .since c f q z h (omega arith) w e ] }
+      record {
+        e0 = k .e0;
+        x = k .x;
+        l0 = k .l0;
+        early = (let h = k .early in omega arith);
+        order = k .order;
+        marks = k .marks;
+        tag0 = k .tag0;
+        out0 = k .out0;
+        who0 = k .who0;
+        clear0 = k .clear0;
+        quiet0 = k .quiet0;
+        since = λ c f q z h l w e. elim (ℕ-discrete c t) [
+          | yes i ↦ g q z f (ap (R .who) (sym i) ∙ w) (ap (R .out) (sym i) ∙ e)
+          | no i ↦ k .since c f q z h (omega arith) w e
+        ];
+      }
 
   pub e-still : {t p n b a : ℕ} {v : V} {f : ℕ} → Goes t p → EInv t p n b a v f → EInv (suc t) p n b a v f
   e-still {t = t} {p = p} {f = f} g k =

@@ -47,12 +47,12 @@ places-of v [] = refl
 places-of v (a ∷ more) = ap (λ l. a ∷ l) (places-shift (rows-of v (expecting v (a ∷ more))) 0 (count-of more) ∙ places-of v more)
 
 pub starts-are-open : {V : Type 0} → Starts-are-open V
-starts-are-open {V = V} v t n b = record
-  { to-read = λ l a. (_, begins-read a)
-  ; to-ll = λ a. (_, begins-ll a)
-  ; to-sc = λ a u. (_, begins-sc a u)
-  ; to-snapshot = λ l a more. subst (λ q. Can-begin {V = V} t (proc n l b resting) (snapshot q)) (places-of v (a ∷ more))
-                    (_, begins-snapshot (rows-of v (expecting v (a ∷ more))) (count-of more))
-  ; to-kcss = λ first others u. subst (λ q. Can-begin {V = V} t (proc n none b resting) (kcss first q u)) (wants-of v others)
-                    (_, begins-kcss (first .location) (first .value) u (rows-of v others) (count-of others))
-  }
+starts-are-open {V = V} v t n b = record {
+  to-read = λ l a. (_, begins-read a);
+  to-ll = λ a. (_, begins-ll a);
+  to-sc = λ a u. (_, begins-sc a u);
+  to-snapshot = λ l a more. subst (λ q. Can-begin {V = V} t (proc n l b resting) (snapshot q)) (places-of v (a ∷ more))
+      (_, begins-snapshot (rows-of v (expecting v (a ∷ more))) (count-of more));
+  to-kcss = λ first others u. subst (λ q. Can-begin {V = V} t (proc n none b resting) (kcss first q u)) (wants-of v others)
+      (_, begins-kcss (first .location) (first .value) u (rows-of v others) (count-of others));
+}

@@ -40,14 +40,14 @@ below-or (suc a) (suc b) = elim (below-or a b) [ inl h ↦ inl (omega arith) | i
 all-or : (P : ℕ → Type 0) → ((j : ℕ) → Dec (P j)) → (k : ℕ) → ((j : ℕ) → j < k → P j) ⊎ ((j : ℕ) × (j < k) × (P j → ⊥))
 all-or P d zero = inl (λ j l. absurd (omega arith))
 all-or P d (suc k) =
-    elim (all-or P d k)
-      [ inr h ↦ inr (h .0, (let l = h .1 in omega arith), h .2)
+    elim (all-or P d k) [
+      | inr h ↦ inr (h .0, (let l = h .1 in omega arith), h .2)
       | inl h ↦
-          elim (d k)
-            [ no n ↦ inr (k, omega arith, n)
+          elim (d k) [
+            | no n ↦ inr (k, omega arith, n)
             | yes y ↦ inl (λ j l. elim (ℕ-discrete j k) [ yes e ↦ subst P (sym e) y | no n ↦ h j (omega arith) ])
-            ]
-      ]
+          ]
+    ]
 
 both : {P Q : Type 0} → Dec P → Dec Q → Dec (P × Q)
 both (no e) f = no (λ h. e (h .0))
@@ -60,10 +60,10 @@ module _ {V : Type 0} (d : Discrete V) where
   same-cell (Value x) (Id k) = no (λ h. clash (cc))
   same-cell (Id k) (Value y) = no (λ h. clash (cc))
   same-cell (Id k) (Id j) =
-      elim (both (ℕ-discrete (k .process) (j .process)) (ℕ-discrete (k .tag) (j .tag)))
-        [ yes e ↦ yes (ap (λ (x : ℕ). id-cell x (k .tag)) (e .0) ∙ ap (id-cell (j .process)) (e .1))
+      elim (both (ℕ-discrete (k .process) (j .process)) (ℕ-discrete (k .tag) (j .tag))) [
+        | yes e ↦ yes (ap (λ (x : ℕ). id-cell x (k .tag)) (e .0) ∙ ap (id-cell (j .process)) (e .1))
         | no n ↦ no (λ h. n (let i : k ≡ j = cc in (ap (λ (x : TaggedId). x .process) i, ap (λ (x : TaggedId). x .tag) i)))
-        ]
+      ]
 
   module _ (t p : ℕ) (w : World V) where
     -- what a val holds
@@ -104,7 +104,7 @@ module _ {V : Type 0} (d : Discrete V) where
 
     -- 11 of a KCSS
     swaps : (n b a : ℕ) (x u v : V) (t8 : ℕ) (rows : Rows V) (k f : ℕ) → Dec (v ≡ x) → Dec (w .val a ≡ id-cell p n)
-            → Meets rows k ⊎ ((j : ℕ) × (j < k) × (rows j .first ≡ rows j .expected → ⊥)) → Goes t p w (proc n none b (swap a x u v t8 rows k f))
+        → Meets rows k ⊎ ((j : ℕ) × (j < k) × (rows j .first ≡ rows j .expected → ⊥)) → Goes t p w (proc n none b (swap a x u v t8 rows k f))
     swaps n b a x u v t8 rows k f (no q) (yes m) c = (_, _, _, kcss-first q m)
     swaps n b a x u v t8 rows k f (no q) (no m) c = (_, _, _, kcss-first-gone q m)
     swaps n b a x u v t8 rows k f (yes q) (yes m) (inr (j, l, c)) = (_, _, _, kcss-other q l c m)
@@ -124,39 +124,39 @@ module _ {V : Type 0} (d : Discrete V) where
         elim (turns a s h) [ inl x ↦ (_, _, _, read-on (x .2)) | inr x ↦ (_, _, _, read-got (x .2)) ]
     goes-in n b l (attempt J) f h =
         free n b l (attempt J) h
-          (elim (holds (place-of J)) [ inl x ↦ (_, _, _, attempt-value (x .1)) | inr x ↦ (_, _, _, attempt-id (x .0) (x .1)) ])
+        (elim (holds (place-of J)) [ inl x ↦ (_, _, _, attempt-value (x .1)) | inr x ↦ (_, _, _, attempt-id (x .0) (x .1)) ])
     goes-in n b l (attempt-again J) f h =
         free n b l (attempt-again J) h
-          (elim (holds (place-of J)) [ inl x ↦ (_, _, _, again-value (x .1)) | inr x ↦ (_, _, _, again-id (x .0) (x .1)) ])
+        (elim (holds (place-of J)) [ inl x ↦ (_, _, _, again-value (x .1)) | inr x ↦ (_, _, _, again-id (x .0) (x .1)) ])
     goes-in n b l (linking J s) f (g, h) =
         free n b l (linking J s) g
-          (elim (turns (place-of J) s h) [ inl x ↦ (_, _, _, link-on (x .2)) | inr x ↦ (_, _, _, link-got (x .2)) ])
+        (elim (turns (place-of J) s h) [ inl x ↦ (_, _, _, link-on (x .2)) | inr x ↦ (_, _, _, link-got (x .2)) ])
     goes-in n b l (to-save J v) f h = free n b l (to-save J v) h (_, _, _, line-7)
     goes-in n b l (to-mark J v) f (g, h) =
         free n b l (to-mark J v) g
-          (elim (same-cell (w .val (place-of J)) (Value v)) [ yes e ↦ (_, _, _, line-8-yes e) | no m ↦ (_, _, _, line-8-no m) ])
+        (elim (same-cell (w .val (place-of J)) (Value v)) [ yes e ↦ (_, _, _, line-8-yes e) | no m ↦ (_, _, _, line-8-no m) ])
     goes-in n b l (to-note J v t8) f h = free n b l (to-note J v t8) h (notes n b J v t8)
     goes-in n b l (swap-sc a u) f h =
         free n b l (swap-sc a u) h
-          (elim (same-cell (w .val a) (id-cell p n)) [ yes e ↦ (_, _, _, sc-yes e) | no m ↦ (_, _, _, sc-no m) ])
+        (elim (same-cell (w .val a) (id-cell p n)) [ yes e ↦ (_, _, _, sc-yes e) | no m ↦ (_, _, _, sc-no m) ])
     goes-in n b l (first-id F rows k i) f h =
         elim (below-or (suc i) k) [ inl y ↦ (_, _, _, s6-on y) | inr y ↦ (_, _, _, s6-end y) ]
     goes-in n b l (first-collect F rows k i s) f (g, h) =
-        elim (turns (rows i .location) s h)
-          [ inl x ↦ (_, _, _, c1-on (x .2))
+        elim (turns (rows i .location) s h) [
+          | inl x ↦ (_, _, _, c1-on (x .2))
           | inr x ↦ elim (below-or (suc i) k) [ inl y ↦ (_, _, _, c1-got (x .2) y) | inr y ↦ (_, _, _, c1-end (x .2) y) ]
-          ]
+        ]
     goes-in n b l (second-collect F rows k o i s) f (g, h) =
-        elim (turns (rows i .location) s h)
-          [ inl x ↦ (_, _, _, c2-on (x .2))
+        elim (turns (rows i .location) s h) [
+          | inl x ↦ (_, _, _, c2-on (x .2))
           | inr x ↦ elim (below-or (suc i) k) [ inl y ↦ (_, _, _, c2-got (x .2) y) | inr y ↦ (_, _, _, c2-end (x .2) y) ]
-          ]
+        ]
     goes-in n b l (second-id F rows k o i) f h =
         elim (below-or (suc i) k) [ inl y ↦ (_, _, _, s9-on y) | inr y ↦ ends-9 n b l F rows k o i y ]
     goes-in n b l (swap a x u v t8 rows k o) f h =
         free n b l (swap a x u v t8 rows k o) h
-          (swaps n b a x u v t8 rows k o (d v x) (same-cell (w .val a) (id-cell p n))
-            (all-or (λ j. rows j .first ≡ rows j .expected) (λ j. d (rows j .first) (rows j .expected)) k))
+        (swaps n b a x u v t8 rows k o (d v x) (same-cell (w .val a) (id-cell p n))
+        (all-or (λ j. rows j .first ≡ rows j .expected) (λ j. d (rows j .first) (rows j .expected)) k))
 
     goes : (r : Process V) → Fits r → Process-sound (w .saved) p r → Goes t p w r
     goes (proc n l b ph) f h = goes-in n b l ph f h
@@ -167,18 +167,24 @@ finishes d p zero t m S f h = bounds .measure .not-zero p m h
 finishes {V = V} d p (suc N) t m S f h = over (goes d t p (world m) (m .processes p) f (S .process)) (λ e r l. finishes d p N (suc t) (turned m e p r))
   where
     over : Goes t p (world m) (m .processes p)
-           → ((e : Event V) (r : Process V) → Line t p (world m) (m .processes p) e r none → Sound (turned m e p r) p → Fits (turned m e p r .processes p)
-              → Remaining (turned m e p r) p N → Ends-within p N (suc t) (turned m e p r))
-           → Ends-within p (suc N) t m
+        → ((e : Event V) (r : Process V) → Line t p (world m) (m .processes p) e r none → Sound (turned m e p r) p → Fits (turned m e p r .processes p)
+        → Remaining (turned m e p r) p N → Ends-within p N (suc t) (turned m e p r))
+        → Ends-within p (suc N) t m
     over (e, r, some o, l) more = (e, r, inl (o, l))
-    over (e, r, none, l) more =
-        (e, r, inr (l, more e r l (stays-sound t p m e r none l S)
-          (subst (λ (x : Process V). Fits x) (sym (changed-here (m .processes) p r)) (asked-bounds .lines-fit t p (world m) (m .processes p) r e l f))
-          (bounds .measure .falls t p N m e r l h)))
+    over (e, r, none, l) more = (
+      e,
+      r,
+      inr (
+        l,
+        more e r l (stays-sound t p m e r none l S)
+            (subst (λ (x : Process V). Fits x) (sym (changed-here (m .processes) p r)) (asked-bounds .lines-fit t p (world m) (m .processes p) r e l f))
+            (bounds .measure .falls t p N m e r l h),
+      ),
+    )
 
 pub goes-on : {V : Type 0} → Goes-on V
-goes-on = record
-  { goes = λ d t p m S f. goes d t p (world m) (m .processes p) f (S .process)
-  ; stays-sound = stays-sound
-  ; finishes = λ d t p m S f. finishes d p (bound (m .processes p)) t m S f (bounds .measure .within-bound p m f)
-  }
+goes-on = record {
+  goes = λ d t p m S f. goes d t p (world m) (m .processes p) f (S .process);
+  stays-sound = stays-sound;
+  finishes = λ d t p m S f. finishes d p (bound (m .processes p)) t m S f (bounds .measure .within-bound p m f);
+}

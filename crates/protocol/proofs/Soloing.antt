@@ -32,10 +32,10 @@ All-fit m = (p : ℕ) → Fit (m .processes p)
 
 set-fit : {V : Type 0} (row : ℕ → Process V) (p : ℕ) (r : Process V) → Fit r → ((j : ℕ) → Fit (row j)) → (j : ℕ) → Fit (changed row p r j)
 set-fit {V = V} row p r f h j =
-    elim (ℕ-discrete j p)
-      [ yes i ↦ subst (λ (x : Process V). Fit x) (sym (ap (changed row p r) i ∙ changed-here row p r)) f
+    elim (ℕ-discrete j p) [
+      | yes i ↦ subst (λ (x : Process V). Fit x) (sym (ap (changed row p r) i ∙ changed-here row p r)) f
       | no n ↦ subst (λ (x : Process V). Fit x) (sym (changed-else row p r j n)) (h j)
-      ]
+    ]
 
 begun-fit : {V : Type 0} {t : ℕ} {m m′ : Machine V} {list : List (Given V)} → Begun t m list m′ → None-repeats list → All-fit m → All-fit m′
 begun-fit no-more g S = S
@@ -43,13 +43,13 @@ begun-fit {t = t} (and-then {m′ = b} more p q r s) g S =
     set-fit (b .processes) p r (inr (asked-bounds .starts-fit t (b .processes p) r q s (g p q (inl refl)))) (begun-fit more (λ j x w. g j x (inr w)) S)
 
 line-fit : {V : Type 0} (t p : ℕ) (m : Machine V) (e : Event V) (r : Process V) (d : Option (Done V)) → Line t p (world m) (m .processes p) e r d
-           → Fit (m .processes p) → Fit r
+    → Fit (m .processes p) → Fit r
 line-fit t p m e r (some (done q a f)) l h = inl (keeps l .1)
 line-fit t p m e r none l (inl h) = inl (keeps l ∙ h)
 line-fit t p m e r none l (inr h) = inr (asked-bounds .lines-fit t p (world m) (m .processes p) r e l h)
 
 call-fit : {V : Type 0} {t q : ℕ} {m m′ : Machine V} {list : List (Given V)} {e : Event V} {d : Option (Done V)} → Call t q m m′ list e d
-           → None-repeats list → All-fit m → All-fit m′
+    → None-repeats list → All-fit m → All-fit m′
 call-fit {V = V} (pauses i) g S = subst (λ (x : Machine V). All-fit x) (sym i) S
 call-fit {V = V} {t = t} {q = q} (steps list b u r e d l i) g S =
     let h = begun-fit u g S in

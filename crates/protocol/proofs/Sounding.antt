@@ -33,31 +33,31 @@ Fine (reset q a v) w = Unit {0}
 module _ {V : Type 0} (w : World V) (S : Cells-sound w) where
   with-value : (a : ℕ) (v : V) (b : ℕ) (k : TaggedId) → changed (w .val) a (Value v) b ≡ Id k → Backed (w .saved) k
   with-value a v b k e =
-      elim (here-or-else (w .val) a (Value v) b)
-        [ inl h ↦ (let x = h .1 in clash (cc))
+      elim (here-or-else (w .val) a (Value v) b) [
+        | inl h ↦ (let x = h .1 in clash (cc))
         | inr h ↦ S .vals b k (sym h ∙ e)
-        ]
+      ]
 
   with-mark : (a q : ℕ) (v : V) → w .saved q ≡ Value v → (b : ℕ) (k : TaggedId) → changed (w .val) a (own-id w q) b ≡ Id k → Backed (w .saved) k
   with-mark a q v s b k e =
-      elim (here-or-else (w .val) a (own-id w q) b)
-        [ inl h ↦ (let x = h .1 in let i : q ≡ k .process = cc in (v, ap (w .saved) (sym i) ∙ s))
+      elim (here-or-else (w .val) a (own-id w q) b) [
+        | inl h ↦ (let x = h .1 in let i : q ≡ k .process = cc in (v, ap (w .saved) (sym i) ∙ s))
         | inr h ↦ S .vals b k (sym h ∙ e)
-        ]
+      ]
 
   pub with-saved : (q : ℕ) (v : V) (k : TaggedId) → Backed (w .saved) k → Backed (changed (w .saved) q (Value v)) k
   with-saved q v k (x, e) =
-      elim (here-or-else (w .saved) q (Value v) (k .process))
-        [ inl h ↦ (v, h .1)
+      elim (here-or-else (w .saved) q (Value v) (k .process)) [
+        | inl h ↦ (v, h .1)
         | inr h ↦ (x, h ∙ e)
-        ]
+      ]
 
   with-note : (a q b : ℕ) → (k : TaggedId) × (changed (w .tid) a (own-id w q) b ≡ Id k)
   with-note a q b =
-      elim (here-or-else (w .tid) a (own-id w q) b)
-        [ inl h ↦ (record { process = q; tag = w .tag q }, h .1)
+      elim (here-or-else (w .tid) a (own-id w q) b) [
+        | inl h ↦ (record { process = q; tag = w .tag q }, h .1)
         | inr h ↦ (S .tids b .0, h ∙ S .tids b .1)
-        ]
+      ]
 
   pub cells-after : (e : Event V) → Fine e w → Cells-sound (after e w)
   cells-after (look q) f = S
@@ -79,7 +79,7 @@ module _ {V : Type 0} {p : ℕ} {w : World V} (S : Cells-sound w) where
   read-fine (line-3b-no k v x) h = (tt, tt)
 
   pub fine : {t : ℕ} {r r′ : Process V} {e : Event V} {d : Option (Done V)} → Line t p w r e r′ d → Process-sound (w .saved) p r
-         → Fine e w × Process-sound (after e w .saved) p r′
+      → Fine e w × Process-sound (after e w .saved) p r′
   fine (read-on x) h = read-fine x h
   fine (read-got (line-13-value v x)) h = (tt, tt)
   fine (attempt-value x) h = (tt, h)
@@ -117,11 +117,11 @@ module _ {V : Type 0} {p : ℕ} {w : World V} (S : Cells-sound w) where
   fine (kcss-other-gone x y z u) h = (tt, tt)
 
 pub stays-sound : {V : Type 0} (t p : ℕ) (m : Machine V) (e : Event V) (r : Process V) (d : Option (Done V))
-                  → Line t p (world m) (m .processes p) e r d → Sound m p → Sound (turned m e p r) p
+    → Line t p (world m) (m .processes p) e r d → Sound m p → Sound (turned m e p r) p
 stays-sound {V = V} t p m e r d l S =
     let f = fine (S .cells) l (S .process) in
     let c = cells-after (world m) (S .cells) e (f .0) in
-    record
-      { cells = record { vals = c .vals; tids = c .tids }
-      ; process = subst (λ (x : Process V). Process-sound (after e (world m) .saved) p x) (sym (changed-here (m .processes) p r)) (f .1)
-      }
+    record {
+      cells = record { vals = c .vals; tids = c .tids };
+      process = subst (λ (x : Process V). Process-sound (after e (world m) .saved) p x) (sym (changed-here (m .processes) p r)) (f .1);
+    }

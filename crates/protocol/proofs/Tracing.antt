@@ -33,10 +33,10 @@ use Rattle.protocol.proofs.Moving.{own-step}
 -- a property of the processes after one of them moved
 pub at-move : {V : Type 0} (Q : ℕ → Process V → Type 0) (g : ℕ → Process V) (m : ℕ) (r : Process V) → Q m r → ((p : ℕ) → (p ≡ m → ⊥) → Q p (g p)) → (p : ℕ) → Q p (changed g m r p)
 at-move Q g m r here there p =
-    elim (ℕ-discrete p m)
-      [ yes i ↦ subst (λ x. Q x (changed g m r x)) (sym i) (subst (Q m) (sym (changed-here g m r)) here)
+    elim (ℕ-discrete p m) [
+      | yes i ↦ subst (λ x. Q x (changed g m r x)) (sym i) (subst (Q m) (sym (changed-here g m r)) here)
       | no h ↦ subst (Q p) (sym (changed-else g m r p h)) (there p h)
-      ]
+    ]
 
 other-saved : {V : Type 0} (e : Event V) (m p : ℕ) (r r′ : Process V) (w : World V) → Fits e m r r′ → (p ≡ m → ⊥) → after e w .saved p ≡ w .saved p
 other-saved (look q) m p r r′ w f h = refl
@@ -72,23 +72,23 @@ module _ {V : Type 0} (R : Run V) where
   its-stage t p y = ap (λ w. w .stage p) (sym (begun-same y))
 
   pub makes : (t : ℕ) {list : List (Given V)} {e : Event V} {d : Option (Done V)} → R .starts t ≡ list → R .event t ≡ e → R .out t ≡ d
-          → Makes-line t (R .who t) (R .at t) list e d → Makes R t (R .who t)
+      → Makes-line t (R .who t) (R .at t) list e d → Makes R t (R .who t)
   makes t {list = list} {e = e} {d = d} x y z m =
       subst (λ l. Makes-line t (R .who t) (R .at t) l (R .event t) (R .out t)) (sym x)
-        (subst (λ g. Makes-line t (R .who t) (R .at t) list g (R .out t)) (sym y) (subst (Makes-line t (R .who t) (R .at t) list e) (sym z) m))
+      (subst (λ g. Makes-line t (R .who t) (R .at t) list g (R .out t)) (sym y) (subst (Makes-line t (R .who t) (R .at t) list e) (sym z) m))
 
   know-step : (t : ℕ) {list : List (Given V)} {e : Event V} {d : Option (Done V)} → Call t (R .who t) (R .at t) (R .at (suc t)) list e d → R .starts t ≡ list → R .event t ≡ e → R .out t ≡ d
-              → ((p : ℕ) → PInv R t p (R .at t .processes p)) → (p : ℕ) → PInv R (suc t) p (R .at (suc t) .processes p)
+      → ((p : ℕ) → PInv R t p (R .at t .processes p)) → (p : ℕ) → PInv R (suc t) p (R .at (suc t) .processes p)
   know-step t (steps list b y r e d l x) st ev o ih p =
       subst (PInv R (suc t) p) (sym (ap (λ m. m .processes p) x))
-        (at-move (PInv R (suc t)) (b .processes) (R .who t) r
-          (own-step R t (R .who t) (its-line t (R .who t) y l) ev o (refl, makes t st ev o (b, r, y, l)) (call-turns (steps list b y r e d l x))
-            (its-tag t (R .who t) y) (its-stage t (R .who t) y) (begun-knows t y ih (R .who t)))
-          (λ q h. still R t q (b .processes q)
-            (ap (λ m. m .saved q) x ∙ other-saved e (R .who t) q (b .processes (R .who t)) r (world b) (fits l) h ∙ ap (λ w. w .saved q) (begun-same y))
-            (λ w. absurd (h (sym w)))
-            (λ a v z. h (sym (ap maker (sym ev ∙ z)) ∙ fits-maker e (R .who t) (b .processes (R .who t)) r (fits l)))
-            (begun-knows t y ih q)) p)
+      (at-move (PInv R (suc t)) (b .processes) (R .who t) r
+      (own-step R t (R .who t) (its-line t (R .who t) y l) ev o (refl, makes t st ev o (b, r, y, l)) (call-turns (steps list b y r e d l x))
+      (its-tag t (R .who t) y) (its-stage t (R .who t) y) (begun-knows t y ih (R .who t)))
+      (λ q h. still R t q (b .processes q)
+      (ap (λ m. m .saved q) x ∙ other-saved e (R .who t) q (b .processes (R .who t)) r (world b) (fits l) h ∙ ap (λ w. w .saved q) (begun-same y))
+      (λ w. absurd (h (sym w)))
+      (λ a v z. h (sym (ap maker (sym ev ∙ z)) ∙ fits-maker e (R .who t) (b .processes (R .who t)) r (fits l)))
+      (begun-knows t y ih q)) p)
   know-step t (pauses x) st ev o ih p =
       subst (PInv R (suc t) p) (sym (ap (λ m. m .processes p) x)) (still R t p (R .at t .processes p) (ap (λ m. m .saved p) x) (λ w. o) (λ a v z. clash (cc)) (ih p))
 
@@ -98,7 +98,7 @@ module _ {V : Type 0} (R : Run V) where
 
   -- what a reader kept still holds while the mark is there
   kept : (n : ℕ) (K : History V) → ((t : ℕ) → t ≤ n → K .at t ≡ W R t) → (s u a q τ : ℕ) (v : V) → s ≤ u → u ≤ n
-         → W R s .val a ≡ id-cell q τ → W R n .val a ≡ id-cell q τ → W R u .saved q ≡ Value v → W R n .saved q ≡ Value v
+      → W R s .val a ≡ id-cell q τ → W R n .val a ≡ id-cell q τ → W R u .saved q ≡ Value v → W R n .saved q ≡ Value v
   kept n K same s u a q τ v h k x y z =
       let x′ : K .at s .val a ≡ id-cell q τ = ap (λ w. w .val a) (same s (omega arith)) ∙ x in
       let y′ : K .at n .val a ≡ id-cell q τ = ap (λ w. w .val a) (same n (omega arith)) ∙ y in
@@ -116,7 +116,7 @@ module _ {V : Type 0} (R : Run V) where
   sub-can t K same (line-3b-no k v x) i = tt
 
   line-can : (t p : ℕ) (K : History V) → ((s : ℕ) → s ≤ t → K .at s ≡ W R s) → {r r′ : Process V} {e : Event V} {d : Option (Done V)} → Line t p (W R t) r e r′ d
-             → W R t .tag p ≡ tag-of r → W R t .stage p ≡ stage-of r → PInv R t p r → Possible e (W R t)
+      → W R t .tag p ≡ tag-of r → W R t .stage p ≡ stage-of r → PInv R t p r → Possible e (W R t)
   line-can t p K same (read-on x) g s i = sub-can t K same x (i .1)
   line-can t p K same (read-got x) g s i = sub-can t K same x (i .1)
   line-can t p K same (attempt-value x) g s i = inl s

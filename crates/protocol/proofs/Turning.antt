@@ -43,7 +43,7 @@ fits-maker (fail q a) p r r′ f = f .0
 fits-maker (reset q a v) p r r′ f = f .0
 
 sub-fits : {V : Type 0} {w : World V} {p a : ℕ} {s : ReadPhase V} {e : Event V} {o : ReadTurn V} → ReadLine w p a s e o
-           → (r r′ : Process V) → tag-of r′ ≡ tag-of r → stage-of r′ ≡ stage-of r → Fits e p r r′
+    → (r r′ : Process V) → tag-of r′ ≡ tag-of r → stage-of r′ ≡ stage-of r → Fits e p r r′
 sub-fits (line-13-value v x) r r′ f g = (refl, f, g)
 sub-fits (line-13-id k x) r r′ f g = (refl, f, g)
 sub-fits (line-1-value v x) r r′ f g = (refl, f, g)
@@ -89,7 +89,6 @@ fits (kcss-first-gone x y) = (refl, refl, refl)
 fits (kcss-other x y z u) = (refl, refl, refl)
 fits (kcss-other-gone x y z u) = (refl, refl, refl)
 
-
 pub begins-fit : {V : Type 0} {t : ℕ} {q : Request V} {r r′ : Process V} → Begins t r q r′ → (tag-of r′ ≡ tag-of r) × (stage-of r′ ≡ stage-of r)
 begins-fit (begins-read a) = (refl, refl)
 begins-fit (begins-ll a) = (refl, refl)
@@ -103,32 +102,32 @@ kept f g p r e q = elim (ℕ-discrete q p) [ yes i ↦ ap f (ap (changed g p r) 
 
 moved : {A X : Type 0} (f : A → X) (g : ℕ → A) (p : ℕ) (r : A) (x : X) → f r ≡ x → (q : ℕ) → f (changed g p r q) ≡ changed (λ z. f (g z)) p x q
 moved {X = X} f g p r x e q =
-    elim (ℕ-discrete q p)
-      [ yes i ↦ ap f (ap (changed g p r) i ∙ changed-here g p r) ∙ e ∙ sym (ap (changed (λ z. f (g z)) p x) i ∙ changed-here (λ z. f (g z)) p x)
+    elim (ℕ-discrete q p) [
+      | yes i ↦ ap f (ap (changed g p r) i ∙ changed-here g p r) ∙ e ∙ sym (ap (changed (λ z. f (g z)) p x) i ∙ changed-here (λ z. f (g z)) p x)
       | no h ↦ ap f (changed-else g p r q h) ∙ sym (changed-else (λ z. f (g z)) p x q h)
-      ]
+    ]
 
 like : {V : Type 0} (w : World V) (tag : ℕ → ℕ) (stage : ℕ → Stage) → ((q : ℕ) → w .tag q ≡ tag q) → ((q : ℕ) → w .stage q ≡ stage q)
-       → w ≡ record { val = w .val; tid = w .tid; saved = w .saved; tag = tag; stage = stage }
+    → w ≡ record { val = w .val; tid = w .tid; saved = w .saved; tag = tag; stage = stage }
 like w tag stage f g = λ i. record { val = w .val; tid = w .tid; saved = w .saved; tag = fun-ext f i; stage = fun-ext g i }
 
 pub turn : {V : Type 0} (m : Machine V) (e : Event V) (p : ℕ) (r : Process V) → Fits e p (m .processes p) r → world (turned m e p r) ≡ after e (world m)
 turn m (look q) p r f = subst (λ x. world (turned m (look x) p r) ≡ after (look x) (world m)) (sym (f .0))
-  (like _ _ _ (kept tag-of (m .processes) p r (f .1)) (kept stage-of (m .processes) p r (f .2)))
+    (like _ _ _ (kept tag-of (m .processes) p r (f .1)) (kept stage-of (m .processes) p r (f .2)))
 turn m (begin q) p r f = subst (λ x. world (turned m (begin x) p r) ≡ after (begin x) (world m)) (sym (f .0))
-  (like _ _ _ (moved tag-of (m .processes) p r (suc (tag-of (m .processes p))) (f .1)) (moved stage-of (m .processes) p r fresh (f .2)))
+    (like _ _ _ (moved tag-of (m .processes) p r (suc (tag-of (m .processes p))) (f .1)) (moved stage-of (m .processes) p r fresh (f .2)))
 turn m (save q v) p r f = subst (λ x. world (turned m (save x v) p r) ≡ after (save x v) (world m)) (sym (f .0))
-  (like _ _ _ (kept tag-of (m .processes) p r (f .1)) (kept stage-of (m .processes) p r (f .2)))
+    (like _ _ _ (kept tag-of (m .processes) p r (f .1)) (kept stage-of (m .processes) p r (f .2)))
 turn m (mark q a v) p r f = subst (λ x. world (turned m (mark x a v) p r) ≡ after (mark x a v) (world m)) (sym (f .0))
-  (like _ _ _ (kept tag-of (m .processes) p r (f .1)) (moved stage-of (m .processes) p r (held a) (f .2)))
+    (like _ _ _ (kept tag-of (m .processes) p r (f .1)) (moved stage-of (m .processes) p r (held a) (f .2)))
 turn m (note q a) p r f = subst (λ x. world (turned m (note x a) p r) ≡ after (note x a) (world m)) (sym (f .0))
-  (like _ _ _ (kept tag-of (m .processes) p r (f .1)) (moved stage-of (m .processes) p r (armed a) (f .2)))
+    (like _ _ _ (kept tag-of (m .processes) p r (f .1)) (moved stage-of (m .processes) p r (armed a) (f .2)))
 turn m (commit q a v) p r f = subst (λ x. world (turned m (commit x a v) p r) ≡ after (commit x a v) (world m)) (sym (f .0))
-  (like _ _ _ (kept tag-of (m .processes) p r (f .1)) (moved stage-of (m .processes) p r idle (f .2)))
+    (like _ _ _ (kept tag-of (m .processes) p r (f .1)) (moved stage-of (m .processes) p r idle (f .2)))
 turn m (fail q a) p r f = subst (λ x. world (turned m (fail x a) p r) ≡ after (fail x a) (world m)) (sym (f .0))
-  (like _ _ _ (kept tag-of (m .processes) p r (f .1)) (moved stage-of (m .processes) p r idle (f .2)))
+    (like _ _ _ (kept tag-of (m .processes) p r (f .1)) (moved stage-of (m .processes) p r idle (f .2)))
 turn m (reset q a v) p r f = subst (λ x. world (turned m (reset x a v) p r) ≡ after (reset x a v) (world m)) (sym (f .0))
-  (like _ _ _ (kept tag-of (m .processes) p r (f .1)) (kept stage-of (m .processes) p r (f .2)))
+    (like _ _ _ (kept tag-of (m .processes) p r (f .1)) (kept stage-of (m .processes) p r (f .2)))
 
 -- a Start changes nothing that is shared
 pub begun-same : {V : Type 0} {t : ℕ} {m b : Machine V} {list : List (Given V)} → Begun t m list b → world b ≡ world m

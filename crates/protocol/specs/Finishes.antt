@@ -18,5 +18,5 @@ None-repeats {V = V} list = (p : ℕ) (q : Request V) → Was-given p q list →
 -- of k. Other processes may stand anywhere in their operations.
 abbrev pub Runs-finish : Type 0 → Type 0
 Runs-finish V = Discrete V → (run : Run V) → ((t : ℕ) → None-repeats (run .starts t))
-  → (t : ℕ) (list : List (Given V)) (m : Machine V) → Begun t (run .at t) list m → None-repeats list
-  → (p : ℕ) (q : Request V) → asked (m .processes p) ≡ some q → Ends-within p (request-bound q) t m
+    → (t : ℕ) (list : List (Given V)) (m : Machine V) → Begun t (run .at t) list m → None-repeats list
+    → (p : ℕ) (q : Request V) → asked (m .processes p) ≡ some q → Ends-within p (request-bound q) t m

@@ -22,9 +22,9 @@ pub record Belongs {V : Type 0} (run : Run V) (n : ℕ) (one : Finished V) : Typ
   pub start : ℕ
   pub was-given : Was-given (one .process) (one .request) (run .starts start)
   pub given-once : (t : ℕ) (request : Request V) → start < t → t ≤ one .last
-                   → Was-given (one .process) request (run .starts t) → ⊥
+      → Was-given (one .process) request (run .starts t) → ⊥
   pub ended-once : (other : Finished V) → other ∈ finished run n → other .process ≡ one .process
-                   → start ≤ other .last → other .last < one .last → ⊥
+      → start ≤ other .last → other .last < one .last → ⊥
   pub after-start : start ≤ one .effect
   pub in-time : one .effect ≤ one .last
   pub own-effect : run .who (one .effect) ≡ one .process
@@ -44,7 +44,7 @@ pub record Lost-to-reset {V : Type 0} (run : Run V) (n : ℕ) (one : Finished V)
   pub value : V
   pub marked : run .event (linking .effect) ≡ mark (one .process) location value
   pub latest : (other : Finished V) → other ∈ finished run n → other .process ≡ one .process
-               → linking .effect < other .effect → other .effect < one .effect → Keeps-link (other .request)
+      → linking .effect < other .effect → other .effect < one .effect → Keeps-link (other .request)
   pub step : ℕ
   pub by-process : ℕ
   pub saved : V
@@ -60,21 +60,21 @@ pub record Lost-to-reset {V : Type 0} (run : Run V) (n : ℕ) (one : Finished V)
 -- its mark by another operation.
 pub record Law {V : Type 0} (run : Run V) (n : ℕ) : Type 0 where
   pub every : (t : ℕ) (request : Request V) (answer : Answer V) (effect : ℕ) → t < n
-              → run .out t ≡ some (done request answer effect)
-              → record { process = run .who t; request = request; answer = answer; effect = effect; last = t }
-                ∈ by-effect (finished run n)
+      → run .out t ≡ some (done request answer effect)
+      → record { process = run .who t; request = request; answer = answer; effect = effect; last = t }
+      ∈ by-effect (finished run n)
   pub all : (one : Finished V) → one ∈ finished run n → one ∈ by-effect (finished run n)
   pub only : (one : Finished V) → one ∈ by-effect (finished run n) → one ∈ finished run n
   pub ascending : Ascending (by-effect (finished run n))
   pub distinct : (one other : Finished V) → one ∈ finished run n → other ∈ finished run n
-                 → one .effect ≡ other .effect → one ≡ other
+      → one .effect ≡ other .effect → one ≡ other
   pub store : Store V
   pub replays : Replays (opened-store (run .initial)) (by-effect (finished run n)) store
   pub stands : (location : ℕ) → Stands (world (run .at n)) location (store .value location)
   pub belongs : (one : Finished V) → one ∈ finished run n → Belongs run n one
   pub failures : (one : Finished V) (location : ℕ) (new : V) (listed : one ∈ finished run n)
-                 → one .request ≡ sc location new → one .answer ≡ said false
-                 → Lost-to-reset run n one location (belongs one listed .start)
+      → one .request ≡ sc location new → one .answer ≡ said false
+      → Lost-to-reset run n one location (belongs one listed .start)
 
 abbrev pub Run-law : Type 0 → Type 0
 Run-law V = (run : Run V) (n : ℕ) → Law run n

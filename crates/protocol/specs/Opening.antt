@@ -20,9 +20,9 @@ pub record Open-to (V : Type 0) (t n b : ℕ) : Type 0 where
   pub to-ll : (a : ℕ) → Can-begin {V = V} t (proc n none b resting) (ll a)
   pub to-sc : (a : ℕ) (u : V) → Can-begin t (proc n (some a) b resting) (sc a u)
   pub to-snapshot : (l : Option ℕ) (a : ℕ) (more : List ℕ)
-                    → Can-begin {V = V} t (proc n l b resting) (snapshot (a ∷ more))
+      → Can-begin {V = V} t (proc n l b resting) (snapshot (a ∷ more))
   pub to-kcss : (first : Expected V) (others : List (Expected V)) (u : V)
-                → Can-begin t (proc n none b resting) (kcss first others u)
+      → Can-begin t (proc n none b resting) (kcss first others u)
 
 -- So it is if there is a value at all.
 abbrev pub Starts-are-open : Type 0 → Type 0

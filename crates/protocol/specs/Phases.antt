@@ -34,24 +34,44 @@ Rows V = ℕ → Row V
 
 -- An operand with one thing found.
 abbrev pub with-id-first : {V : Type 0} → Row V → Cell V → Row V
-with-id-first row found = record
-  { location = row .location; expected = row .expected; first = row .first
-  ; second = row .second; id-first = found; id-second = row .id-second }
+with-id-first row found = record {
+  location = row .location;
+  expected = row .expected;
+  first = row .first;
+  second = row .second;
+  id-first = found;
+  id-second = row .id-second;
+}
 
 abbrev pub with-id-second : {V : Type 0} → Row V → Cell V → Row V
-with-id-second row found = record
-  { location = row .location; expected = row .expected; first = row .first
-  ; second = row .second; id-first = row .id-first; id-second = found }
+with-id-second row found = record {
+  location = row .location;
+  expected = row .expected;
+  first = row .first;
+  second = row .second;
+  id-first = row .id-first;
+  id-second = found;
+}
 
 abbrev pub with-first : {V : Type 0} → Row V → V → Row V
-with-first row found = record
-  { location = row .location; expected = row .expected; first = found
-  ; second = row .second; id-first = row .id-first; id-second = row .id-second }
+with-first row found = record {
+  location = row .location;
+  expected = row .expected;
+  first = found;
+  second = row .second;
+  id-first = row .id-first;
+  id-second = row .id-second;
+}
 
 abbrev pub with-second : {V : Type 0} → Row V → V → Row V
-with-second row found = record
-  { location = row .location; expected = row .expected; first = row .first
-  ; second = found; id-first = row .id-first; id-second = row .id-second }
+with-second row found = record {
+  location = row .location;
+  expected = row .expected;
+  first = row .first;
+  second = found;
+  id-first = row .id-first;
+  id-second = row .id-second;
+}
 
 -- What an LL is made for: itself, or a KCSS with first location, its expected value, new value, the other operands and
 -- their count.

@@ -86,33 +86,33 @@ Left-in val tid p n (reading a s) N = Reads val a s N
 Left-in val tid p n (attempt J) N = Job-fits J × (cost (val (place-of J)) + 3 + beyond val J ≤ N)
 Left-in val tid p n (attempt-again J) N = Job-fits J × (cost (val (place-of J)) + 3 + beyond val J ≤ N)
 Left-in val tid p n (linking J s) N =
-  Job-fits J × (r : ℕ) × Reads val (place-of J) s r × (r + 3 + beyond val J ≤ N)
+    Job-fits J × (r : ℕ) × Reads val (place-of J) s r × (r + 3 + beyond val J ≤ N)
 Left-in val tid p n (to-save J v) N =
-  Job-fits J × ((10 + beyond val J ≤ N) ⊎ ((val (place-of J) ≡ Value v) × (3 + beyond val J ≤ N)))
+    Job-fits J × ((10 + beyond val J ≤ N) ⊎ ((val (place-of J) ≡ Value v) × (3 + beyond val J ≤ N)))
 Left-in val tid p n (to-mark J v) N =
-  Job-fits J × ((9 + beyond val J ≤ N) ⊎ ((val (place-of J) ≡ Value v) × (2 + beyond val J ≤ N)))
+    Job-fits J × ((9 + beyond val J ≤ N) ⊎ ((val (place-of J) ≡ Value v) × (2 + beyond val J ≤ N)))
 Left-in val tid p n (to-note J v t8) N =
-  Job-fits J × ((1 + beyond-lost val J ≤ N) ⊎ ((val (place-of J) ≡ id-cell p n) × (1 + beyond val J ≤ N)))
+    Job-fits J × ((1 + beyond-lost val J ≤ N) ⊎ ((val (place-of J) ≡ id-cell p n) × (1 + beyond val J ≤ N)))
 Left-in val tid p n (swap-sc a u) N = 1 ≤ N
 Left-in val tid p n (first-id F rows k i) N =
-  Purpose-fits F rows k × (i < k) × (E : ℕ) × Rest val p n F k E
-  × ((costs val rows k + 7 * k + E ≤ N + i) ⊎ (Ids-stand tid rows i × (costs val rows k + 3 * k + E ≤ N + i)))
+    Purpose-fits F rows k × (i < k) × (E : ℕ) × Rest val p n F k E
+    × ((costs val rows k + 7 * k + E ≤ N + i) ⊎ (Ids-stand tid rows i × (costs val rows k + 3 * k + E ≤ N + i)))
 Left-in val tid p n (first-collect F rows k i s) N =
-  Purpose-fits F rows k × (i < k) × (E : ℕ) × Rest val p n F k E × (r : ℕ) × Reads val (rows i .location) s r
-  × ((r + costs val rows k + 6 * k + E ≤ N + cost (val (rows i .location)) + i)
-     ⊎ (Ids-stand tid rows k × Firsts-stand val rows i
-        × (r + costs val rows k + 2 * k + E ≤ N + cost (val (rows i .location)) + i)))
+    Purpose-fits F rows k × (i < k) × (E : ℕ) × Rest val p n F k E × (r : ℕ) × Reads val (rows i .location) s r
+    × ((r + costs val rows k + 6 * k + E ≤ N + cost (val (rows i .location)) + i)
+    ⊎ (Ids-stand tid rows k × Firsts-stand val rows i
+    × (r + costs val rows k + 2 * k + E ≤ N + cost (val (rows i .location)) + i)))
 Left-in val tid p n (second-collect F rows k f i s) N =
-  Purpose-fits F rows k × (i < k) × (E : ℕ) × Rest val p n F k E
-  × (((r : ℕ) × Reads val (rows i .location) s r
-      × (r + costs val rows k + 5 * k + E ≤ N + cost (val (rows i .location)) + i))
-     ⊎ ((s ≡ looks) × Ids-stand tid rows k × Firsts-stand val rows k × Values-agree rows i × (2 * k + E ≤ N + i)))
+    Purpose-fits F rows k × (i < k) × (E : ℕ) × Rest val p n F k E
+    × (((r : ℕ) × Reads val (rows i .location) s r
+    × (r + costs val rows k + 5 * k + E ≤ N + cost (val (rows i .location)) + i))
+    ⊎ ((s ≡ looks) × Ids-stand tid rows k × Firsts-stand val rows k × Values-agree rows i × (2 * k + E ≤ N + i)))
 Left-in val tid p n (second-id F rows k f i) N =
-  Purpose-fits F rows k × (i < k) × (E : ℕ) × Rest val p n F k E
-  × ((costs val rows k + 4 * k + E ≤ N + i)
-     ⊎ (Ids-stand tid rows k × Firsts-stand val rows k × Values-agree rows k × Ids-agree rows i × (k + E ≤ N + i)))
+    Purpose-fits F rows k × (i < k) × (E : ℕ) × Rest val p n F k E
+    × ((costs val rows k + 4 * k + E ≤ N + i)
+    ⊎ (Ids-stand tid rows k × Firsts-stand val rows k × Values-agree rows k × Ids-agree rows i × (k + E ≤ N + i)))
 Left-in val tid p n (swap a x u v t8 rows k f) N =
-  Off a rows k × ((costs val rows k + 3 * k + 10 ≤ N) ⊎ ((val a ≡ id-cell p n) × (1 ≤ N)))
+    Off a rows k × ((costs val rows k + 3 * k + 10 ≤ N) ⊎ ((val a ≡ id-cell p n) × (1 ≤ N)))
 
 abbrev pub Left : {V : Type 0} → (val tid : ℕ → Cell V) (p : ℕ) → Process V → ℕ → Type 0
 Left val tid p (proc n l b ph) N = Left-in val tid p n ph N

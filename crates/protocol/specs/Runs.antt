@@ -27,9 +27,9 @@ pub data Begins {V : Type 0} (t : ℕ) : Process V → Request V → Process V �
   begins-ll : {n b : ℕ} (a : ℕ) → Begins t (proc n none b resting) (ll a) (proc n none t (attempt (for-ll a)))
   begins-sc : {n b : ℕ} (a : ℕ) (u : V) → Begins t (proc n (some a) b resting) (sc a u) (proc n none t (swap-sc a u))
   begins-snapshot : {n b : ℕ} {l : Option ℕ} (rows : Rows V) (k : ℕ)
-    → Begins t (proc n l b resting) (snapshot (places rows 0 (suc k))) (proc n l t (first-id solo rows (suc k) zero))
+      → Begins t (proc n l b resting) (snapshot (places rows 0 (suc k))) (proc n l t (first-id solo rows (suc k) zero))
   begins-kcss : {n b : ℕ} (a : ℕ) (x u : V) (rows : Rows V) (k : ℕ)
-    → Begins t (proc n none b resting) (kcss-of a x u rows k) (proc n none t (attempt (for-kcss a x u rows k)))
+      → Begins t (proc n none b resting) (kcss-of a x u rows k) (proc n none t (attempt (for-kcss a x u rows k)))
 
 -- The shared cells and the processes.
 pub record Machine (V : Type 0) : Type 0 where
@@ -40,9 +40,13 @@ pub record Machine (V : Type 0) : Type 0 where
 
 -- The world of a machine.
 abbrev pub world : {V : Type 0} → Machine V → World V
-world m = record
-  { val = m .val; tid = m .tid; saved = m .saved
-  ; tag = λ process. tag-of (m .processes process); stage = λ process. stage-of (m .processes process) }
+world m = record {
+  val = m .val;
+  tid = m .tid;
+  saved = m .saved;
+  tag = λ process. tag-of (m .processes process);
+  stage = λ process. stage-of (m .processes process);
+}
 
 -- A request given to a process.
 pub data Given (V : Type 0) : Type 0 where
@@ -57,21 +61,24 @@ Was-given process request (one ∷ more) = (one ≡ given process request) ⊎ W
 pub data Begun {V : Type 0} (t : ℕ) (m : Machine V) : List (Given V) → Machine V → Type 0 where
   no-more : Begun t m [] m
   and-then : {m′ : Machine V} {list : List (Given V)} → Begun t m list m′ → (p : ℕ) (q : Request V) (r : Process V)
-    → Begins t (m′ .processes p) q r
-    → Begun t m (given p q ∷ list)
-        (record { val = m′ .val; tid = m′ .tid; saved = m′ .saved; processes = changed (m′ .processes) p r })
+      → Begins t (m′ .processes p) q r
+      → Begun t m (given p q ∷ list)
+      (record { val = m′ .val; tid = m′ .tid; saved = m′ .saved; processes = changed (m′ .processes) p r })
 
 -- The machine after an event, by which a process comes to a new state.
 abbrev pub turned : {V : Type 0} → Machine V → Event V → ℕ → Process V → Machine V
-turned m e p r = record
-  { val = after e (world m) .val; tid = after e (world m) .tid; saved = after e (world m) .saved
-  ; processes = changed (m .processes) p r }
+turned m e p r = record {
+  val = after e (world m) .val;
+  tid = after e (world m) .tid;
+  saved = after e (world m) .saved;
+  processes = changed (m .processes) p r;
+}
 
 -- Step t of a run: some Starts, then one line of process p, which may end an operation; or a pause, which only looks.
 pub data Call {V : Type 0} (t p : ℕ) (m m′ : Machine V) : List (Given V) → Event V → Option (Done V) → Type 0 where
   steps : (list : List (Given V)) (between : Machine V) → Begun t m list between
-          → (r : Process V) (e : Event V) (d : Option (Done V)) → Line t p (world between) (between .processes p) e r d
-          → m′ ≡ turned between e p r → Call t p m m′ list e d
+      → (r : Process V) (e : Event V) (d : Option (Done V)) → Line t p (world between) (between .processes p) e r d
+      → m′ ≡ turned between e p r → Call t p m m′ list e d
   pauses : m′ ≡ m → Call t p m m′ [] (look p) none
 
 -- A run, without end: one of n steps goes on with pauses. Step t, counted from 0, is made by process who t, by the event
@@ -93,8 +100,8 @@ pub record Run (V : Type 0) : Type 0 where
 -- Process p makes a line at step t, in the machine told, after the Starts, by the event and with the end told.
 abbrev pub Makes-line : {V : Type 0} (t p : ℕ) → Machine V → List (Given V) → Event V → Option (Done V) → Type 0
 Makes-line {V = V} t p m list e d =
-  (between : Machine V) × (r : Process V) × Begun t m list between
-                        × Line t p (world between) (between .processes p) e r d
+    (between : Machine V) × (r : Process V) × Begun t m list between
+    × Line t p (world between) (between .processes p) e r d
 
 -- The step of the run is a line of the process, and no pause.
 abbrev pub Makes : {V : Type 0} → Run V → (t p : ℕ) → Type 0
@@ -108,7 +115,7 @@ Paused run n = (t : ℕ) → n ≤ t → (run .event t ≡ look (run .who t)) ×
 abbrev pub with-ended : {V : Type 0} → (process last : ℕ) → Option (Done V) → List (Finished V) → List (Finished V)
 with-ended p t none more = more
 with-ended p t (some (done q answer f)) more =
-  record { process = p; request = q; answer = answer; effect = f; last = t } ∷ more
+    record { process = p; request = q; answer = answer; effect = f; last = t } ∷ more
 
 -- The finished operations of the first n steps, the last first.
 abbrev pub finished : {V : Type 0} → Run V → ℕ → List (Finished V)

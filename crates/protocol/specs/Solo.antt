@@ -70,7 +70,7 @@ Remaining m p N = Left (m .val) (m .tid) p (m .processes p) N
 -- at least one remains; and in every phase at most the bound remains, whatever the cells hold.
 pub record Falls (V : Type 0) : Type 0 where
   pub falls : (t p N : ℕ) (m : Machine V) (e : Event V) (r : Process V)
-    → Line t p (world m) (m .processes p) e r none → Remaining m p (suc N) → Remaining (turned m e p r) p N
+      → Line t p (world m) (m .processes p) e r none → Remaining m p (suc N) → Remaining (turned m e p r) p N
   pub not-zero : (p : ℕ) (m : Machine V) → Remaining m p 0 → ⊥
   pub within-bound : (p : ℕ) (m : Machine V) → Fits (m .processes p) → Remaining m p (bound (m .processes p))
 
@@ -78,8 +78,8 @@ pub record Falls (V : Type 0) : Type 0 where
 abbrev pub Alone : {V : Type 0} (p N : ℕ) → Machine V → Type 0
 Alone p zero m = Unit {0}
 Alone {V = V} p (suc N) m =
-  (t : ℕ) × (e : Event V) × (r : Process V)
-  × Line t p (world m) (m .processes p) e r none × Alone p N (turned m e p r)
+    (t : ℕ) × (e : Event V) × (r : Process V)
+    × Line t p (world m) (m .processes p) e r none × Alone p N (turned m e p r)
 
 -- A process that steps alone makes fewer lines than its bound that do not end its operation: the line that the bound
 -- counts last, if it comes to it, ends the operation.

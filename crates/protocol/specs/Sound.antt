@@ -73,20 +73,20 @@ Goes {V = V} t p w r = (e : Event V) × (r′ : Process V) × (d : Option (Done 
 abbrev pub Ends-within : {V : Type 0} (p N t : ℕ) → Machine V → Type 0
 Ends-within p zero t m = ⊥
 Ends-within {V = V} p (suc N) t m =
-  (e : Event V) × (r : Process V)
-  × (((o : Done V) × Line t p (world m) (m .processes p) e r (some o))
-     ⊎ (Line t p (world m) (m .processes p) e r none × Ends-within p N (suc t) (turned m e p r)))
+    (e : Event V) × (r : Process V)
+    × (((o : Done V) × Line t p (world m) (m .processes p) e r (some o))
+    ⊎ (Line t p (world m) (m .processes p) e r none × Ends-within p N (suc t) (turned m e p r)))
 
 -- Where it can be told of any two values whether they are the same, a process that runs an operation in a sound machine
 -- can make its next line, and the machine after any line that it makes is sound. So, stepped alone, it ends its
 -- operation within its bound.
 pub record Goes-on (V : Type 0) : Type 0 where
   pub goes : Discrete V → (t p : ℕ) (m : Machine V) → Sound m p → Fits (m .processes p)
-    → Goes t p (world m) (m .processes p)
+      → Goes t p (world m) (m .processes p)
   pub stays-sound : (t p : ℕ) (m : Machine V) (e : Event V) (r : Process V) (d : Option (Done V))
-    → Line t p (world m) (m .processes p) e r d → Sound m p → Sound (turned m e p r) p
+      → Line t p (world m) (m .processes p) e r d → Sound m p → Sound (turned m e p r) p
   pub finishes : Discrete V → (t p : ℕ) (m : Machine V) → Sound m p → Fits (m .processes p)
-    → Ends-within p (bound (m .processes p)) t m
+      → Ends-within p (bound (m .processes p)) t m
 
 -- Every machine of a run is sound, for every process.
 abbrev pub Runs-sound : Type 0 → Type 0

@@ -22,4 +22,4 @@ pub record One-event {V : Type 0} (m : Machine V) (p : ℕ) (e : Event V) (r : P
 
 abbrev pub Lines-are-events : Type 0 → Type 0
 Lines-are-events V = (t p : ℕ) (m : Machine V) (e : Event V) (r : Process V) (d : Option (Done V))
-  → Line t p (world m) (m .processes p) e r d → One-event m p e r d
+    → Line t p (world m) (m .processes p) e r d → One-event m p e r d
