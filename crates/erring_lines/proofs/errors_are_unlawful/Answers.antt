@@ -1,0 +1,10 @@
+-- The runs together.
+-- Each was computed by itself.
+use Rattle.erring_lines.proofs.Runs as runs
+use Rattle.erring_lines.proofs.errors_are_unlawful.Needs as need
+
+pub returns : need.returns
+returns c = record {
+  read-logs = runs.read-logs;
+  read-unlawful = runs.read-unlawful;
+}
