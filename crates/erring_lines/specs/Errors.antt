@@ -15,7 +15,7 @@ use Rattle.sample_runs.specs.Model.Outcome.{gave, said-yes, said-no}
 use Rattle.sample_runs.specs.Model.Command.{start, step}
 use Rattle.sample_runs.specs.Samples.{steps-of}
 use Rattle.erring_lines.specs.Runs.{Lines, log-by, operations-by}
-use Rattle.erring_lines.specs.Erring.{leaves-id}
+use Rattle.erring_lines.specs.Erring.{leaves-id, compares-values-only, logs-at-swap}
 
 abbrev pub initial-store : Store ℕ
 initial-store = opened-store (λ a. cond (eqb a 0) 5 7)
@@ -45,6 +45,44 @@ Read-logs = log-by leaves-id read-run
 abbrev pub Read-unlawful : Type 0
 Read-unlawful = Unlawful leaves-id read-run
 
+-- KCSS of one location
+abbrev pub set-one : ℕ → ℕ → ℕ → ℕ → Command
+set-one p a old new = start p Kcss ((a, Some old) ∷ []) (Some new)
+
+abbrev pub set-of : ℕ → ℕ → ℕ → ℕ → List Command → List Command
+set-of p a old new rest = set-one p a old new ∷ steps-of p 5 rest
+
+-- Process 0 SNAPSHOTs locations 0 and 1, while process 1 sets each of them away and back. Both collects find 5 and 8, but
+-- the locations never held 5 and 8 together: they held 5, 7 and 6, 7 and 6, 8, then 6, 7 and 5, 7, then 6, 7 and 6, 8.
+abbrev pub snapshot-run : List Command
+snapshot-run = start 0 Snapshot ((0, None) ∷ (1, None) ∷ []) None ∷ steps-of 0 3
+    (set-of 1 0 5 6 (set-of 1 1 7 8 (step 0 ∷
+    set-of 1 1 8 7 (set-of 1 0 6 5 (step 0 ∷
+    set-of 1 0 5 6 (set-of 1 1 7 8 (steps-of 0 3 [])))))))
+
+abbrev pub Snapshot-logs : Type 0
+Snapshot-logs = log-by compares-values-only snapshot-run
+    ≡ ended 2 1 said-yes 4 8 8 ∷ ended 3 1 said-yes 9 13 13 ∷ ended 4 1 said-yes 15 19 19 ∷ ended 5 1 said-yes 20 24 24
+    ∷ ended 6 1 said-yes 26 30 30 ∷ ended 7 1 said-yes 31 35 35 ∷ ended 1 0 (gave (Some 5 ∷ Some 8 ∷ [])) 1 14 38 ∷ []
+
+abbrev pub Snapshot-unlawful : Type 0
+Snapshot-unlawful = Unlawful compares-values-only snapshot-run
+
+-- Process 0 makes a KCSS of locations 0 and 1, which expects 5 and 7, up to its 11. Process 1 sets location 1 to 8. The 11
+-- then says yes; logged there, the KCSS comes after location 1 was set, and had to say no.
+abbrev pub kcss-run : List Command
+kcss-run = start 0 Kcss ((0, Some 5) ∷ (1, Some 7) ∷ []) (Some 9) ∷ steps-of 0 8 (set-of 1 1 7 8 (step 0 ∷ []))
+
+abbrev pub Kcss-logs : Type 0
+Kcss-logs = log-by logs-at-swap kcss-run ≡ ended 2 1 said-yes 9 13 13 ∷ ended 1 0 said-yes 1 14 14 ∷ []
+
+abbrev pub Kcss-unlawful : Type 0
+Kcss-unlawful = Unlawful logs-at-swap kcss-run
+
 pub record All-errors : Type 0 where
   pub read-logs : Read-logs
   pub read-unlawful : Read-unlawful
+  pub snapshot-logs : Snapshot-logs
+  pub snapshot-unlawful : Snapshot-unlawful
+  pub kcss-logs : Kcss-logs
+  pub kcss-unlawful : Kcss-unlawful

@@ -7,4 +7,8 @@ pub returns : need.returns
 returns c = record {
   read-logs = runs.read-logs;
   read-unlawful = runs.read-unlawful;
+  snapshot-logs = runs.snapshot-logs;
+  snapshot-unlawful = runs.snapshot-unlawful;
+  kcss-logs = runs.kcss-logs;
+  kcss-unlawful = runs.kcss-unlawful;
 }
