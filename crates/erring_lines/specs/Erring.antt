@@ -30,6 +30,9 @@ use Rattle.lines.specs.Advancing.{finding-of, turn-of, found-turn, go-to-operan
 use Rattle.sample_runs.specs.Model.{code}
 use Rattle.erring_lines.specs.Runs.{Lines}
 
+abbrev pub true-lines : Lines
+true-lines = record { finding = finding-of; turn = turn-of code }
+
 -- what is so where a READ runs, and elsewhere
 abbrev pub in-read : {A : Type 0} → Phase ℕ → (ReadPhase ℕ → A) → A → A
 in-read Idle f other = other

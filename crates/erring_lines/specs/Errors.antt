@@ -9,13 +9,13 @@ use Rattle.std.specs.declared.option.Option.the-variants.{Some, None}
 use Rattle.operation.specs.declared.kind.OperationKind.the-variants.{Read, Ll, Sc, Snapshot, Kcss}
 use Rattle.protocol.specs.Store.{Store, opened-store}
 use Rattle.protocol.specs.Replay.{Lawful}
-use Rattle.sample_runs.specs.Model.{Command}
+use Rattle.sample_runs.specs.Model.{Event, Command}
 use Rattle.sample_runs.specs.Model.Event.{ended}
 use Rattle.sample_runs.specs.Model.Outcome.{gave, said-yes, said-no}
 use Rattle.sample_runs.specs.Model.Command.{start, step}
 use Rattle.sample_runs.specs.Samples.{steps-of}
-use Rattle.erring_lines.specs.Runs.{Lines, log-by, operations-by}
-use Rattle.erring_lines.specs.Erring.{leaves-id, compares-values-only, logs-at-swap}
+use Rattle.erring_lines.specs.Runs.{Lines, log-by, operations-by, finished-with}
+use Rattle.erring_lines.specs.Erring.{true-lines, leaves-id, compares-values-only, logs-at-swap}
 
 abbrev pub initial-store : Store ℕ
 initial-store = opened-store (λ a. cond (eqb a 0) 5 7)
@@ -23,6 +23,14 @@ initial-store = opened-store (λ a. cond (eqb a 0) 5 7)
 -- the store does not allow what these lines log
 abbrev pub Unlawful : Lines → List Command → Type 0
 Unlawful lines script = Lawful initial-store (operations-by lines script) → ⊥
+
+-- nor does it allow that with the operation of this number put anywhere else
+abbrev pub Nowhere-lawful : Lines → List Command → ℕ → Type 0
+Nowhere-lawful lines script n = (place : ℕ) → Lawful initial-store (finished-with script n place (log-by lines script)) → ⊥
+
+-- it allows what the true lines log
+abbrev pub True-lines-lawful : List Command → Type 0
+True-lines-lawful script = Lawful initial-store (operations-by true-lines script)
 
 abbrev pub ll : ℕ → ℕ → Command
 ll p a = start p Ll ((a, None) ∷ []) None
@@ -38,12 +46,20 @@ read p a = start p Read ((a, None) ∷ []) None
 abbrev pub read-run : List Command
 read-run = ll 0 0 ∷ steps-of 0 4 (read 1 0 ∷ steps-of 1 2 (sc 0 0 9 ∷ step 0 ∷ ll 0 1 ∷ steps-of 0 2 (step 1 ∷ [])))
 
+abbrev pub read-log : List Event
+read-log = ended 1 0 (gave (Some 5 ∷ [])) 1 3 4 ∷ ended 3 0 said-yes 7 7 7 ∷ ended 2 1 (gave (Some 7 ∷ [])) 5 10 10 ∷ []
+
 abbrev pub Read-logs : Type 0
-Read-logs = log-by leaves-id read-run
-    ≡ ended 1 0 (gave (Some 5 ∷ [])) 1 3 4 ∷ ended 3 0 said-yes 7 7 7 ∷ ended 2 1 (gave (Some 7 ∷ [])) 5 10 10 ∷ []
+Read-logs = log-by leaves-id read-run ≡ read-log
 
 abbrev pub Read-unlawful : Type 0
 Read-unlawful = Unlawful leaves-id read-run
+
+abbrev pub Read-nowhere-lawful : Type 0
+Read-nowhere-lawful = Nowhere-lawful leaves-id read-run 2
+
+abbrev pub Read-true-lines : Type 0
+Read-true-lines = True-lines-lawful read-run
 
 -- KCSS of one location
 abbrev pub set-one : ℕ → ℕ → ℕ → ℕ → Command
@@ -60,29 +76,48 @@ snapshot-run = start 0 Snapshot ((0, None) ∷ (1, None) ∷ []) None ∷ steps-
     set-of 1 1 8 7 (set-of 1 0 6 5 (step 0 ∷
     set-of 1 0 5 6 (set-of 1 1 7 8 (steps-of 0 3 [])))))))
 
-abbrev pub Snapshot-logs : Type 0
-Snapshot-logs = log-by compares-values-only snapshot-run
-    ≡ ended 2 1 said-yes 4 8 8 ∷ ended 3 1 said-yes 9 13 13 ∷ ended 4 1 said-yes 15 19 19 ∷ ended 5 1 said-yes 20 24 24
+abbrev pub snapshot-log : List Event
+snapshot-log = ended 2 1 said-yes 4 8 8 ∷ ended 3 1 said-yes 9 13 13 ∷ ended 4 1 said-yes 15 19 19 ∷ ended 5 1 said-yes 20 24 24
     ∷ ended 6 1 said-yes 26 30 30 ∷ ended 7 1 said-yes 31 35 35 ∷ ended 1 0 (gave (Some 5 ∷ Some 8 ∷ [])) 1 14 38 ∷ []
+
+abbrev pub Snapshot-logs : Type 0
+Snapshot-logs = log-by compares-values-only snapshot-run ≡ snapshot-log
 
 abbrev pub Snapshot-unlawful : Type 0
 Snapshot-unlawful = Unlawful compares-values-only snapshot-run
+
+abbrev pub Snapshot-nowhere-lawful : Type 0
+Snapshot-nowhere-lawful = Nowhere-lawful compares-values-only snapshot-run 1
+
+abbrev pub Snapshot-true-lines : Type 0
+Snapshot-true-lines = True-lines-lawful snapshot-run
 
 -- Process 0 makes a KCSS of locations 0 and 1, which expects 5 and 7, up to its 11. Process 1 sets location 1 to 8. The 11
 -- then says yes; logged there, the KCSS comes after location 1 was set, and had to say no.
 abbrev pub kcss-run : List Command
 kcss-run = start 0 Kcss ((0, Some 5) ∷ (1, Some 7) ∷ []) (Some 9) ∷ steps-of 0 8 (set-of 1 1 7 8 (step 0 ∷ []))
 
+abbrev pub kcss-log : List Event
+kcss-log = ended 2 1 said-yes 9 13 13 ∷ ended 1 0 said-yes 1 14 14 ∷ []
+
 abbrev pub Kcss-logs : Type 0
-Kcss-logs = log-by logs-at-swap kcss-run ≡ ended 2 1 said-yes 9 13 13 ∷ ended 1 0 said-yes 1 14 14 ∷ []
+Kcss-logs = log-by logs-at-swap kcss-run ≡ kcss-log
 
 abbrev pub Kcss-unlawful : Type 0
 Kcss-unlawful = Unlawful logs-at-swap kcss-run
 
+abbrev pub Kcss-true-lines : Type 0
+Kcss-true-lines = True-lines-lawful kcss-run
+
 pub record All-errors : Type 0 where
   pub read-logs : Read-logs
   pub read-unlawful : Read-unlawful
+  pub read-nowhere-lawful : Read-nowhere-lawful
+  pub read-true-lines : Read-true-lines
   pub snapshot-logs : Snapshot-logs
   pub snapshot-unlawful : Snapshot-unlawful
+  pub snapshot-nowhere-lawful : Snapshot-nowhere-lawful
+  pub snapshot-true-lines : Snapshot-true-lines
   pub kcss-logs : Kcss-logs
   pub kcss-unlawful : Kcss-unlawful
+  pub kcss-true-lines : Kcss-true-lines

@@ -1,9 +1,9 @@
 -- Runs of the model with given lines in place of the true ones, and the list of finished operations that a run logs.
 -- The lines say what is recorded and where a process goes then; the accesses are the true ones.
 use mathlib.Core.Bool.{true, false, cond}
-use mathlib.Core.List.{List, [], _∷_}
+use mathlib.Core.List.{List, [], _∷_, _++_}
 use Prim.Native.Nat.{ℕ, zero, suc}
-use lib.Dec.{ltb}
+use lib.Dec.{eqb, ltb}
 use Rattle.std.specs.declared.option.Option.{Option}
 use Rattle.std.specs.declared.option.Option.the-variants.{Some, None}
 use Rattle.operation.specs.declared.kind.OperationKind.{OperationKind}
@@ -126,3 +126,26 @@ finished-in script (misfit p ∷ rest) = finished-in script rest
 -- the finished operations of a run, lowest effect step first
 abbrev pub operations-by : Lines → List Command → List (Finished ℕ)
 operations-by lines script = by-effect (finished-in script (log-by lines script))
+
+-- the operation of this number alone, and the others
+abbrev pub only : ℕ → List Event → List Event
+only n [] = []
+only n (ended k p o began effect last ∷ rest) = cond (eqb k n) (ended k p o began effect last ∷ only n rest) (only n rest)
+only n (refused p k ∷ rest) = only n rest
+only n (misfit p ∷ rest) = only n rest
+
+abbrev pub without : ℕ → List Event → List Event
+without n [] = []
+without n (ended k p o began effect last ∷ rest) = cond (eqb k n) (without n rest) (ended k p o began effect last ∷ without n rest)
+without n (refused p k ∷ rest) = without n rest
+without n (misfit p ∷ rest) = without n rest
+
+-- the first list put before this place of the second, or at its end
+abbrev pub placed : ℕ → List (Finished ℕ) → List (Finished ℕ) → List (Finished ℕ)
+placed place done [] = done
+placed zero done (one ∷ more) = done ++ (one ∷ more)
+placed (suc place) done (one ∷ more) = one ∷ placed place done more
+
+-- the finished operations of a log, lowest effect step first, but the one of this number at this place
+abbrev pub finished-with : List Command → ℕ → ℕ → List Event → List (Finished ℕ)
+finished-with script n place log = placed place (finished-in script (only n log)) (by-effect (finished-in script (without n log)))

@@ -7,8 +7,13 @@ pub returns : need.returns
 returns c = record {
   read-logs = runs.read-logs;
   read-unlawful = runs.read-unlawful;
+  read-nowhere-lawful = runs.read-nowhere-lawful;
+  read-true-lines = runs.read-true-lines;
   snapshot-logs = runs.snapshot-logs;
   snapshot-unlawful = runs.snapshot-unlawful;
+  snapshot-nowhere-lawful = runs.snapshot-nowhere-lawful;
+  snapshot-true-lines = runs.snapshot-true-lines;
   kcss-logs = runs.kcss-logs;
   kcss-unlawful = runs.kcss-unlawful;
+  kcss-true-lines = runs.kcss-true-lines;
 }
