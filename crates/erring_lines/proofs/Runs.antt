@@ -1,18 +1,22 @@
 -- Each run is computed, and its list of finished operations is refused by the store.
 -- The cells and processes are functions, whose changes are unfolded.
 use mathlib.Core.Path.{_≡_, refl, sym, subst}
+use mathlib.Core.List.{List}
 use Prim.Native.Nat.{ℕ, zero, suc}
 use native.Mathlib.Omega.{arith}
-use Rattle.sample_runs.specs.Model.{Event, upd}
 use Rattle.protocol.specs.World.{changed}
-use mathlib.Core.List.{List}
 use Rattle.protocol.specs.Replay.{Lawful}
+use Rattle.sample_runs.specs.Model.{Event, upd}
 use Rattle.erring_lines.specs.Runs.{finished-with}
-use Rattle.erring_lines.specs.Errors.{initial-store, read-run, read-log, snapshot-run, snapshot-log, Read-logs, Read-unlawful, Snapshot-logs, Snapshot-unlawful, Kcss-logs, Kcss-unlawful, Read-nowhere-lawful, Snapshot-nowhere-lawful, Read-true-lines, Snapshot-true-lines, Kcss-true-lines}
+use Rattle.erring_lines.specs.Errors.{initial-store, read-run, read-log, snapshot-run, snapshot-log, Read-logs, Read-unlawful, Snapshot-logs, Snapshot-unlawful, Kcss-logs, Kcss-unlawful, Read-nowhere-lawful, Snapshot-nowhere-lawful, Read-operations, Snapshot-operations, Kcss-operations, Read-true-lines, Snapshot-true-lines, Kcss-true-lines}
 
 pub read-logs : Read-logs
 unfolding upd
 read-logs = refl
+
+pub read-operations : Read-operations
+unfolding upd
+read-operations = refl
 
 pub read-unlawful : Read-unlawful
 unfolding upd changed
@@ -22,6 +26,10 @@ pub snapshot-logs : Snapshot-logs
 unfolding upd
 snapshot-logs = refl
 
+pub snapshot-operations : Snapshot-operations
+unfolding upd
+snapshot-operations = refl
+
 pub snapshot-unlawful : Snapshot-unlawful
 unfolding upd changed
 snapshot-unlawful lawful = let z : _≡_ {A = ℕ} 5 6 = cc (lawful .1 .1 .0) in omega arith
@@ -29,6 +37,10 @@ snapshot-unlawful lawful = let z : _≡_ {A = ℕ} 5 6 = cc (lawful .1 .1 .0) in
 pub kcss-logs : Kcss-logs
 unfolding upd
 kcss-logs = refl
+
+pub kcss-operations : Kcss-operations
+unfolding upd
+kcss-operations = refl
 
 pub kcss-unlawful : Kcss-unlawful
 unfolding upd changed

@@ -1,6 +1,6 @@
 -- Three errors in the lines.
 -- Each differs from the true lines in one place.
-use mathlib.Core.Bool.{Bool, true, false, _&&_, cond}
+use mathlib.Core.Bool.{Bool, true, _&&_, cond}
 use mathlib.Core.List.{List, [], _∷_}
 use Prim.Native.Nat.{ℕ}
 use lib.ListN.{length, drop}
@@ -16,7 +16,6 @@ use Rattle.lines.specs.declared.phase.Phase.the-variants.{Idle, Reading, Attemp
 use Rattle.lines.specs.declared.records.Operand.{Operand}
 use Rattle.lines.specs.declared.records.Seen.{Seen}
 use Rattle.lines.specs.declared.records.Seen.the-variants.{Found, Stored, Said}
-use Rattle.lines.specs.declared.turn.Finding.{Finding}
 use Rattle.lines.specs.declared.turn.Finding.the-variants as finding
 use Rattle.lines.specs.declared.turn.Effect.{Effect}
 use Rattle.lines.specs.declared.turn.Effect.the-variants.{Here}
