@@ -59,7 +59,7 @@ abbrev then-values : {V : Type 0} → Option (List V) → Option (Answer V)
 then-values x = and-then x (λ list. Some (values list))
 
 -- what was collected counts no more
-loosely : {V : Type 0} (rows : Rows V) (ops : List (Operand V)) (k : ℕ) → Fits k k rows ops k → Fits 0 0 rows ops k
+pub loosely : {V : Type 0} (rows : Rows V) (ops : List (Operand V)) (k : ℕ) → Fits k k rows ops k → Fits 0 0 rows ops k
 loosely rows ops k fits = (fits .0, λ j o e. (let z = fits .1 j o e in (z .0, z .1, z .2, (λ q. absurd (omega arith)), (λ q. absurd (omega arith)))))
 
 module _ {V : Type 0} (code : V → ℕ) (one : (x y : V) → code x ≡ code y → x ≡ y) (t p n b : ℕ) (l : maybe.Option ℕ) (w : World V)

@@ -3,3 +3,6 @@ pub mod Fitting
 pub mod Compares
 pub mod Collects
 pub mod Singles
+pub mod Wanting
+pub mod Inside
+pub mod Swaps

@@ -3,3 +3,4 @@ pub mod Steps
 pub mod Showing
 pub mod Collecting
 pub mod Single
+pub mod Several

@@ -5,6 +5,7 @@ ghost use Rattle.lines_lawful.specs.Steps.{Makes-lines};
 ghost use Rattle.lines_lawful.specs.Showing.{Shows-read, Shows-ll, Shows-sc};
 ghost use Rattle.lines_lawful.specs.Collecting.{Shows-snapshot};
 ghost use Rattle.lines_lawful.specs.Single.{Shows-single};
+ghost use Rattle.lines_lawful.specs.Several.{Shows-kcss};
 use value::ValueKind;
 
 // Each step of a READ is a line of the relation.
@@ -38,6 +39,13 @@ pub fn snapshots_make_lines<V: ValueKind>() -> u8
 // Each step of a KCSS of one location is a line of the relation.
 pub fn single_kcss_make_lines<V: ValueKind>() -> u8
     ensures { λ _. ⌜ Makes-lines {V = V} coded Shows-single ⌝ }
+{
+    0
+}
+
+// Each step of a KCSS of two or more locations is a line of the relation.
+pub fn kcss_make_lines<V: ValueKind>() -> u8
+    ensures { λ _. ⌜ Makes-lines {V = V} coded Shows-kcss ⌝ }
 {
     0
 }
