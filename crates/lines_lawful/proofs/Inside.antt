@@ -1,9 +1,9 @@
 -- The SNAPSHOT inside a KCSS: each step of the code is a line.
 use mathlib.Core.Path.{_≡_, refl, sym, _∙_, ap, subst}
 use mathlib.Core.Bool.{Bool, true, false, cond}
-use mathlib.Core.List.{List, [], _∷_}
+use mathlib.Core.List.{List, _∷_}
 use mathlib.Core.Option as maybe
-use Prim.Native.Nat.{ℕ, zero, suc, _+_, _<_, _≤_}
+use Prim.Native.Nat.{ℕ, suc, _+_, _<_, _≤_}
 use native.Mathlib.Omega.{arith}
 use lib.Dec.{ltb, leb}
 use lib.ListN.{length}
@@ -22,7 +22,7 @@ use Rattle.lines.specs.declared.phase.Phase.the-variants.{FirstId, FirstCollect
 use Rattle.lines.specs.declared.records.Operand.{Operand}
 use Rattle.lines.specs.declared.records.Place.the-variants.{Tid}
 use Rattle.lines.specs.declared.records.Access.the-variants.{Load}
-use Rattle.lines.specs.declared.records.Seen.the-variants.{Found, Stored, Said}
+use Rattle.lines.specs.declared.records.Seen.the-variants.{Found}
 use Rattle.lines.specs.declared.turn.Finding.{Finding}
 use Rattle.lines.specs.declared.turn.Finding.the-variants as finding
 use Rattle.lines.specs.declared.turn.Milestone.the-variants.{Collected}
@@ -36,7 +36,7 @@ use Rattle.protocol.specs.World.{World, changed}
 use Rattle.protocol.specs.Events.{Event, after}
 use Rattle.protocol.specs.Events.Event.{look, reset}
 use Rattle.protocol.specs.Phases as relation
-use Rattle.protocol.specs.Phases.{Row, Rows, with-id-first, with-id-second, with-first, with-second, Purpose}
+use Rattle.protocol.specs.Phases.{Rows, with-id-first, with-id-second, with-first, with-second, Purpose}
 use Rattle.protocol.specs.Phases.ReadPhase.{looks}
 use Rattle.protocol.specs.Phases.Purpose.{inside}
 use Rattle.protocol.specs.Phases.Phase.{first-id, first-collect, second-collect, second-id}
@@ -44,9 +44,9 @@ use Rattle.protocol.specs.Phases.Process.{proc}
 use Rattle.protocol.specs.Lines.{Line}
 use Rattle.protocol.specs.Lines.ReadLine.{line-13-value, line-13-id, line-1-value, line-1-id, line-3a, line-3b-yes, line-3b-no}
 use Rattle.protocol.specs.Lines.Line.{s6-on, s6-end, c1-on, c1-got, c1-end, c2-on, c2-got, c2-end, s9-on, s9-again, s9-inside}
-use Rattle.lines_lawful.specs.View.{Running, Cells, cells-of, Performing, Gives, When, at-operand, put-first, put-second, put-first-id, put-second-id}
+use Rattle.lines_lawful.specs.View.{Running, cells-of, Performing, Gives, When, at-operand, put-first, put-second, put-first-id, put-second-id}
 use Rattle.lines_lawful.specs.View.Running.{runs}
-use Rattle.lines_lawful.specs.Steps.{Leads, Steps, Makes-lines}
+use Rattle.lines_lawful.specs.Steps.{Leads, Steps}
 use Rattle.lines_lawful.specs.Showing.{read-phase}
 use Rattle.lines_lawful.specs.Collecting.{Fits}
 use Rattle.lines_lawful.specs.Single.{single}

@@ -1,8 +1,8 @@
 -- A KCSS of two or more locations: each step of the code is a line.
-use mathlib.Core.List.{List, [], _∷_}
+use mathlib.Core.List.{List, _∷_}
 use mathlib.Core.Option as maybe
 use Rattle.std.specs.declared.option.Option.{Option}
-use Rattle.std.specs.declared.option.Option.the-variants.{Some, None}
+use Rattle.std.specs.declared.option.Option.the-variants.{Some}
 use Rattle.memory.specs.declared.cell.Cell.{Cell}
 use Rattle.memory.specs.declared.cell.TaggedId.{TaggedId}
 use Rattle.memory.specs.declared.cell.Cell.the-variants.{Value, Id}
@@ -10,9 +10,7 @@ use Rattle.lines.specs.declared.phase.ReadPhase.{ReadPhase}
 use Rattle.lines.specs.declared.phase.ReadPhase.the-variants.{Look, LookAgain, Fetch, Reset}
 use Rattle.lines.specs.declared.phase.Phase.the-variants.{Attempt, Linking, Save, Mark, Note, FirstId, Swap}
 use Rattle.lines.specs.declared.records.Operand.{Operand}
-use Rattle.lines.specs.declared.records.Seen.{Seen}
-use Rattle.lines.specs.declared.records.Seen.the-variants.{Found, Stored, Said}
-use Rattle.lines.specs.Advancing.{finding-of, turn-of}
+use Rattle.lines.specs.declared.records.Seen.the-variants.{Found}
 use Rattle.protocol.specs.World.{World, changed, id-cell}
 use Rattle.protocol.specs.Events.{Event, after}
 use Rattle.protocol.specs.Events.Event.{look, begin, save, mark, note, commit, fail, reset}
@@ -20,7 +18,7 @@ use Rattle.protocol.specs.Phases as relation
 use Rattle.protocol.specs.Phases.Process.{proc}
 use Rattle.protocol.specs.Lines.{Line}
 use Rattle.protocol.specs.Lines.ReadLine.{line-13-value, line-13-id, line-1-value, line-1-id, line-3a, line-3b-yes, line-3b-no}
-use Rattle.lines_lawful.specs.Steps.{Showing, Leads, Steps, Makes-lines}
+use Rattle.lines_lawful.specs.Steps.{Leads, Steps, Makes-lines}
 use mathlib.Core.Path.{_≡_, refl, sym, ap, subst}
 use mathlib.Core.Bool.{Bool, true, false, cond, _&&_}
 use Prim.Native.Nat.{ℕ, zero, suc, _<_, _≤_}
