@@ -78,6 +78,9 @@ module _ {V : Type 0} (code : V → ℕ) (one : (x y : V) → code x ≡ code y 
       → (j : ℕ) × (j < k) × (rows j .first ≡ rows j .expected → ⊥)
   unmet-row rows ops k fits want e =
       let x = one-unmet ops e in
-      let h : x .0 < k = subst (λ (y : ℕ). x .0 < y) (fits .0) (below ops (x .0) (x .1) (x .2)) in
-      (x .0, h, λ g. eqb-false (code (rows (x .0) .first)) (code (rows (x .0) .expected))
-      (compares (x .1) (rows (x .0)) false (fits .1 (x .0) (x .1) (x .2) .3 h) (want (x .0) (x .1) (x .2)) (x .3)) (ap code g))
+      let h : x .0 < k = subst (λ (y : ℕ). x .0 < y) (fits .0) (below ops (x .0) (x .1) (x .2)) in (
+        x .0,
+        h,
+        λ g. eqb-false (code (rows (x .0) .first)) (code (rows (x .0) .expected))
+            (compares (x .1) (rows (x .0)) false (fits .1 (x .0) (x .1) (x .2) .3 h) (want (x .0) (x .1) (x .2)) (x .3)) (ap code g),
+      )
