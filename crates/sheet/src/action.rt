@@ -11,7 +11,7 @@ use value::ValueKind;
 
 impl<V: ValueKind> Action<V> {
     // The kind of the operation.
-    pub fn kind(&self) -> OperationKind
+    pub(crate) fn kind(&self) -> OperationKind
         ensures { λ r. ⌜ r ≡ act-kind (act-of (now (self .entry))) ⌝ }
     {
         match self {
@@ -24,7 +24,7 @@ impl<V: ValueKind> Action<V> {
     }
 
     // How many locations it names.
-    pub fn count(&self) -> usize
+    pub(crate) fn count(&self) -> usize
         ensures { λ r. ⌜ r ≡ act-count (act-of (now (self .entry))) ⌝ }
     {
         match self {
@@ -35,7 +35,7 @@ impl<V: ValueKind> Action<V> {
     }
 
     // The code of the new value, and 0 where there is none.
-    pub fn new_code(&self) -> u64
+    pub(crate) fn new_code(&self) -> u64
         ensures { λ r. ⌜ r ≡ new-code coded (act-of (now (self .entry))) ⌝ }
     {
         match self {
@@ -47,7 +47,7 @@ impl<V: ValueKind> Action<V> {
 
 impl ScriptItem {
     // Whether the item has a byte: a step of a process from 32 on has none.
-    pub fn is_writable(&self) -> bool
+    pub(crate) fn is_writable(&self) -> bool
         ensures { λ r. ⌜ r ≡ writable (now (self .entry)) ⌝ }
     {
         match self {
@@ -57,7 +57,7 @@ impl ScriptItem {
     }
 
     // The byte that stands for the item.
-    pub fn byte(&self) -> u8
+    pub(crate) fn byte(&self) -> u8
         ensures { λ r. ⌜ r ≡ item-byte (now (self .entry)) ⌝ }
     {
         match self {
