@@ -1,5 +1,7 @@
 // A memory that is lent: the same memory, behind a reference.
 // Uses the value kinds and what every memory is.
+#![tactic(auto)]
+
 ghost use Rattle.std.specs.Prelude.{◌≡◌};
 ghost use Rattle.memory.specs.Rules.{store-answer, store_after, cas-answer, cas-after};
 

@@ -1,6 +1,8 @@
 // The lines of the algorithm, one shared access each: what a process accesses next, and where it goes from
 // what the access found. Nothing here touches a memory or a table.
 // Uses value kinds, cells, the kinds of operations and the phases of processes.
+#![tactic(auto)]
+
 mod access;
 mod compare;
 mod moves;

@@ -1,6 +1,8 @@
 // The lines as code and the lines as a relation: each step that the pure functions of crate lines say a process makes
 // is a line of the relation of crate protocol, and each Start is one of its Starts. It is proof alone: each theorem is
 // the contract of a function that does nothing else.
+#![tactic(auto)]
+
 ghost use Rattle.lines_lawful.specs.Steps.{MakesLines, NeverSticks};
 ghost use Rattle.lines_lawful.specs.Starting.{StartsBegin};
 ghost use Rattle.lines_lawful.specs.Showing.{Shows};

@@ -1,5 +1,7 @@
 // What every memory is: cells, limits, faults and the interface.
 // Uses the value kinds. The memories themselves have crates of their own.
+#![tactic(auto)]
+
 mod cell;
 mod fault;
 mod interface;

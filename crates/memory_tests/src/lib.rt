@@ -1,5 +1,7 @@
 // Examples of the memories at both value kinds: both sides of every limit, and memories that stand on others.
 // Uses the value kinds and the memories.
+#![tactic(auto)]
+
 #[cfg(test)]
 mod edges;
 #[cfg(test)]

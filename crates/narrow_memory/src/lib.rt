@@ -1,5 +1,7 @@
 // Narrow memory: the cells of the memory below, under limits of its own.
 // Uses the value kinds and what every memory is. It makes every test itself, so the memory below never refuses.
+#![tactic(auto)]
+
 ghost use Rattle.std.specs.Prelude.{◌≡◌};
 ghost use Rattle.memory.specs.Rules.{smaller_limits, store-answer, store_after, cas-answer, cas-after};
 

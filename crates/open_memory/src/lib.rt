@@ -1,5 +1,7 @@
 // Open memory: cells in a table that the caller lends.
 // Uses the value kinds and what every memory is.
+#![tactic(auto)]
+
 ghost use Rattle.std.specs.Prelude.{◌≡◌};
 ghost use Rattle.memory.specs.Rules.{first_cells, first_few, open_limits_lem, load_answer, store-answer, store_after, cas-answer, cas-after, table_stored, table_swapped};
 

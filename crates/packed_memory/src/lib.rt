@@ -1,5 +1,7 @@
 // Packed memory: cells kept as 64-bit words.
 // Uses the value kinds and what every memory is.
+#![tactic(auto)]
+
 mod packed;
 mod words;
 

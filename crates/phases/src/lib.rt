@@ -1,6 +1,8 @@
 // Where a process stands in its operation, and what a line asks for, finds, records and leads to: types alone, and
 // the names of the lines.
 // Uses the cells of memories.
+#![tactic(auto)]
+
 mod name;
 mod phase;
 mod records;

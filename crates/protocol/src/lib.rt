@@ -2,6 +2,8 @@
 // of the algorithm and their runs; and why the order of their operations by effect step is lawful. It is model and proof
 // alone: each theorem is the contract of a function that does nothing else. V is the type of the values: any type, or,
 // where a line has to be found, any value kind. Uses the cells of memories and the laws of value kinds.
+#![tactic(auto)]
+
 ghost use Rattle.protocol.specs.Past.{MarksOwned, IdsNeverReturn, TidsGuardValues, ChangesByCommit, LostMarkWasReset};
 ghost use Rattle.protocol.specs.Replay.{ReplaysAgree};
 ghost use Rattle.protocol.specs.Order.{OrderLaw};

@@ -1,5 +1,7 @@
 // Run sheets: what an examination run is to do, as types, with reading from bytes and writing to bytes. Gathers
 // what `sheet_format`, `sheet_reader` and `sheet_writer` offer to others.
+#![tactic(auto)]
+
 pub use sheet_format::{
     Action, Operand, Operation, ReadError, ScriptItem, Sheet, SheetFault, SheetRefusal,
 };

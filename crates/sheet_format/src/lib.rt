@@ -1,5 +1,7 @@
 // The format of run sheets: what a sheet says, as types; the faults of the sheet layer; and, in specs/, the
 // bytes of a sheet and what reading and writing answer. Uses `operation` and the standard library.
+#![tactic(auto)]
+
 mod fault;
 mod head;
 mod header;

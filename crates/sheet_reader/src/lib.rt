@@ -1,5 +1,7 @@
 // Reading run sheets. Uses `sheet_header`, the types and rules of `sheet_format`, the kinds of `value` and
 // `operation`, and the standard library.
+#![tactic(auto)]
+
 mod bytes;
 mod read_lists;
 mod read_operation;

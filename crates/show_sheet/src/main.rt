@@ -1,5 +1,7 @@
 // Prints the report on a run sheet that it reads from standard input. Ends with status 1 where the sheet is
 // refused. Uses `report` and the standard library.
+#![tactic(auto)]
+
 use anyhow::anyhow;
 use std::io::Read;
 

@@ -1,5 +1,7 @@
 // Spliced memory: one memory's cells followed by another's.
 // Uses the value kinds and what every memory is. It makes every test itself, so neither memory below refuses.
+#![tactic(auto)]
+
 ghost use Rattle.std.specs.Prelude.{◌≡◌};
 ghost use Rattle.spliced_memory.specs.Joined.{joined, joined_limits, SidesKept};
 ghost use Rattle.memory.specs.Rules.{first_cells, first_few, store-answer, store_after, cas-answer, cas-after, table_stored, table_swapped};

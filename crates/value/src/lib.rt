@@ -1,5 +1,7 @@
 // Value kinds: what a location of the machine may hold, and the code that stands for each value.
 // Uses nothing but the standard library.
+#![tactic(auto)]
+
 mod kind;
 mod link;
 mod link_kind;
