@@ -21,7 +21,7 @@ pub enum Cell<V> {
 
 // Whether both cells hold the same value, or ids with equal numbers.
 pub fn same_cell<V: ValueKind>(a: &Cell<V>, b: &Cell<V>) -> bool
-    ensures test { result ≡ same coded a.now b.now }
+    ensures test { result ≡ same V.coded a.now b.now }
     ensures decides { Decides result (a.now ≡ b.now) }
 {
     match (a, b) {

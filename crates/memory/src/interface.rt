@@ -35,20 +35,20 @@ pub trait Memory<V: ValueKind> {
 
     // Whether the cell could be stored. The test is the same for every memory.
     fn fits(&self, cell: &Cell<V>) -> Result<(), MemoryFault>
-        ensures { result ≡ fits_answer coded (limits self.now) cell.now }
+        ensures { result ≡ fits_answer V.coded (limits self.now) cell.now }
     {
         admit_cell(self.limits(), 0, cell)
     }
 
     // Makes cell i the given cell.
     fn store(&mut self, i: usize, cell: &Cell<V>) -> Result<(), MemoryFault>
-        ensures answer { result ≡ store-answer coded (limits self.old) (cells self.old) i cell.now }
-        ensures after { cells self.new ≡ store_after coded (limits self.old) (cells self.old) i cell.now }
+        ensures answer { result ≡ store-answer V.coded (limits self.old) (cells self.old) i cell.now }
+        ensures after { cells self.new ≡ store_after V.coded (limits self.old) (cells self.old) i cell.now }
         ensures kept { limits self.new ≡ limits self.old };
 
     // Makes cell i the new cell and says yes if cell i is the same as the old cell, else says no.
     fn cas(&mut self, i: usize, old: &Cell<V>, new: &Cell<V>) -> Result<bool, MemoryFault>
-        ensures answer { result ≡ cas-answer coded (limits self.old) (cells self.old) i old.now new.now }
-        ensures after { cells self.new ≡ cas-after coded (limits self.old) (cells self.old) i old.now new.now }
+        ensures answer { result ≡ cas-answer V.coded (limits self.old) (cells self.old) i old.now new.now }
+        ensures after { cells self.new ≡ cas-after V.coded (limits self.old) (cells self.old) i old.now new.now }
         ensures kept { limits self.new ≡ limits self.old };
 }

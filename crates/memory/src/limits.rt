@@ -39,7 +39,7 @@ impl Limits {
 
 // The limits of open and packed memory.
 pub fn open_limits<V: ValueKind>() -> Limits
-    ensures { result ≡ open_limits_lem greatest }
+    ensures { result ≡ open_limits_lem V.greatest }
 {
     Limits {
         process: GREATEST_PROCESS,
@@ -57,7 +57,7 @@ pub fn counted_cells(table: usize) -> usize
 
 // Whether the cell passes none of the limits.
 pub fn cell_fits<V: ValueKind>(limits: Limits, cell: &Cell<V>) -> bool
-    ensures { result ≡ fitting coded limits cell.now }
+    ensures { result ≡ fitting V.coded limits cell.now }
 {
     match cell {
         Cell::Value(value) => value.code() <= limits.code,
@@ -71,7 +71,7 @@ pub(crate) fn admit_cell<V: ValueKind>(
     place: usize,
     cell: &Cell<V>,
 ) -> Result<(), MemoryFault>
-    ensures { result ≡ fitness coded limits place cell.now }
+    ensures { result ≡ fitness V.coded limits place cell.now }
 {
     if !cell_fits(limits, cell) {
         return Err(MemoryFault::unfit(place));
@@ -86,7 +86,7 @@ pub fn admit_change<V: ValueKind>(
     i: usize,
     cell: &Cell<V>,
 ) -> Result<(), MemoryFault>
-    ensures { result ≡ admission coded limits count i cell.now }
+    ensures { result ≡ admission V.coded limits count i cell.now }
 {
     if i >= count {
         return Err(MemoryFault::no_cell(i));
