@@ -18,7 +18,7 @@ import sys
 WORD = re.compile(r"[^\s(){}\[\].;,@\"«»`:'|]+'*")
 DECLARED = [
     re.compile(r"(?m)^(?:abbrev |unfoldable )?(?:pub )?(?:ruleset )?([A-Za-z][\w-]*'*)(?: \{[^{}\n]*\})* :(?= |\n)([^\n]*)"),
-    re.compile(r"(?m)^ +(?:pub )?([A-Za-z][\w-]*'*) :(?= |\n)([^\n]*)"),
+    re.compile(r"(?m)^ +(?:abbrev |unfoldable )?(?:pub )?([A-Za-z][\w-]*'*) :(?= |\n)([^\n]*)"),
     re.compile(r"(?m)^(?:pub )?(?:data|record) ([A-Za-z][\w-]*'*)(?=[ \n])()"),
     re.compile(r"(?m)^(?:pub )?ruleset ([A-Za-z][\w-]*'*)(?=[ \n])()"),
 ]

@@ -19,8 +19,8 @@ use Rattle.phases.specs.declared.turn.Answer.TheVariants.{Values, Yes, No}
 use Rattle.phases.specs.declared.turn.Turn.{Turn}
 use Rattle.phases.specs.declared.turn.Turn.TheVariants as turn
 use Rattle.lines.specs.Suiting.{snapshot_from_lem}
-use Rattle.lines.specs.Comparing.{same-values}
-use Rattle.lines.specs.Advancing.{finding_of_lem, turn-of, found_turn, go_to_operand, next_operand_lem, undisturbed, on}
+use Rattle.lines.specs.Comparing.{same_values_lem}
+use Rattle.lines.specs.Advancing.{finding_of_lem, turn_of, found_turn, go_to_operand, next_operand_lem, undisturbed, on}
 use Rattle.sample_runs.specs.Model.{Lines, code}
 
 -- what is so where a READ runs, and elsewhere
@@ -75,14 +75,14 @@ abbrev pub leaves_id : Lines
 leaves_id = record {
   finding = λ phase seen. in_read phase (λ read. fetched read seen (λ v. Some (finding.First 0 v)) (finding_of_lem phase seen)) (finding_of_lem phase seen);
   turn = λ kind operands phase seen. in_read phase
-      (λ read. fetched read seen (λ v. Some (turn.Ends Values Here)) (turn-of code kind operands phase seen))
-      (turn-of code kind operands phase seen);
+      (λ read. fetched read seen (λ v. Some (turn.Ends Values Here)) (turn_of code kind operands phase seen))
+      (turn_of code kind operands phase seen);
 }
 
 -- both values of every operand are the same, whatever its ids are
 abbrev pub all_values_same : List (Operand ℕ) → Bool
 all_values_same [] = true
-all_values_same (o ∷ rest) = same-values code o.first o.second && all_values_same rest
+all_values_same (o ∷ rest) = same_values_lem code o.first o.second && all_values_same rest
 
 abbrev pub compared_by_values : OperationKind → List (Operand ℕ) → Option (Turn ℕ)
 compared_by_values kind operands = cond (all_values_same (drop (snapshot_from_lem kind) operands)) (undisturbed kind) (on (FirstId (snapshot_from_lem kind)))
@@ -93,7 +93,7 @@ compares_values_only = record {
   finding = finding_of_lem;
   turn = λ kind operands phase seen. in_second_id phase
       (λ operand. found_turn seen (go_to_operand (next_operand_lem operand (length operands)) SecondId (compared_by_values kind operands)))
-      (turn-of code kind operands phase seen);
+      (turn_of code kind operands phase seen);
 }
 
 abbrev pub yes_here : Answer → Effect → Effect
@@ -110,5 +110,5 @@ yes_ends_here (Some (turn.Ends answer effect)) = Some (turn.Ends answer (yes_her
 abbrev pub logs_at_swap : Lines
 logs_at_swap = record {
   finding = finding_of_lem;
-  turn = λ kind operands phase seen. yes_ends_here (turn-of code kind operands phase seen);
+  turn = λ kind operands phase seen. yes_ends_here (turn_of code kind operands phase seen);
 }

@@ -36,35 +36,35 @@ with_place (Some o) f = f o.location
 
 module _ {V : Type 0} (code : V → ℕ) where
   -- 11 writes the new value; where a value of a KCSS differs from its expected one, the LL's value
-  abbrev pub swap-value : OperationKind → List (Operand V) → Option V → Option V
-  swap-value Read operands new = new
-  swap-value Ll operands new = new
-  swap-value Sc operands new = new
-  swap-value Snapshot operands new = new
-  swap-value Kcss operands new = cond (all_meet code operands) new (first_of (operand_at operands 0))
+  abbrev pub swap_value_lem : OperationKind → List (Operand V) → Option V → Option V
+  swap_value_lem Read operands new = new
+  swap_value_lem Ll operands new = new
+  swap_value_lem Sc operands new = new
+  swap_value_lem Snapshot operands new = new
+  swap_value_lem Kcss operands new = cond (all_meet code operands) new (first_of (operand_at operands 0))
 
-  abbrev pub swap-access : TaggedId → ℕ → Option V → Option (Line × Access V)
-  swap-access own location None = None
-  swap-access own location (Some v) = Some (L11, Cas (Val location) (Id own) (Value v))
+  abbrev pub swap_access : TaggedId → ℕ → Option V → Option (Line × Access V)
+  swap_access own location None = None
+  swap_access own location (Some v) = Some (L11, Cas (Val location) (Id own) (Value v))
 
   module _ (own : TaggedId) (kind : OperationKind) (operands : List (Operand V)) (new : Option V) where
     -- `location` is the first operand's
-    abbrev pub phase-access : ℕ → Phase V → Option (Line × Access V)
-    phase-access location Idle = None
-    phase-access location (Reading read) = Some (read_access_lem location read)
-    phase-access location Attempt = Some (L13, Load (Val location))
-    phase-access location (Linking read) = Some (read_access_lem location read)
-    phase-access location (Save kept) = Some (L7, Store (Saved own.process) kept)
-    phase-access location (Mark kept) = Some (L8, Cas (Val location) kept (Id own))
-    phase-access location (Note kept) = Some (L9, Store (Tid location) (Id own))
-    phase-access location (FirstId operand) = with_place (operand_at operands operand) (λ a. Some (S6, Load (Tid a)))
-    phase-access location (FirstCollect operand read) = with_place (operand_at operands operand) (λ a. Some (read_access_lem a read))
-    phase-access location (SecondCollect operand read) = with_place (operand_at operands operand) (λ a. Some (read_access_lem a read))
-    phase-access location (SecondId operand) = with_place (operand_at operands operand) (λ a. Some (S9, Load (Tid a)))
-    phase-access location Swap = swap-access own location (swap-value kind operands new)
+    abbrev pub phase_access : ℕ → Phase V → Option (Line × Access V)
+    phase_access location Idle = None
+    phase_access location (Reading read) = Some (read_access_lem location read)
+    phase_access location Attempt = Some (L13, Load (Val location))
+    phase_access location (Linking read) = Some (read_access_lem location read)
+    phase_access location (Save kept) = Some (L7, Store (Saved own.process) kept)
+    phase_access location (Mark kept) = Some (L8, Cas (Val location) kept (Id own))
+    phase_access location (Note kept) = Some (L9, Store (Tid location) (Id own))
+    phase_access location (FirstId operand) = with_place (operand_at operands operand) (λ a. Some (S6, Load (Tid a)))
+    phase_access location (FirstCollect operand read) = with_place (operand_at operands operand) (λ a. Some (read_access_lem a read))
+    phase_access location (SecondCollect operand read) = with_place (operand_at operands operand) (λ a. Some (read_access_lem a read))
+    phase_access location (SecondId operand) = with_place (operand_at operands operand) (λ a. Some (S9, Load (Tid a)))
+    phase_access location Swap = swap_access own location (swap_value_lem kind operands new)
 
-    abbrev pub line-access : Phase V → Option (Line × Access V)
-    line-access phase = with_place (operand_at operands 0) (λ a. phase-access a phase)
+    abbrev pub line_access_lem : Phase V → Option (Line × Access V)
+    line_access_lem phase = with_place (operand_at operands 0) (λ a. phase_access a phase)
 
-    abbrev pub next-access : Phase V → Option (Line × Access V)
-    next-access phase = cond (suiting kind phase) (line-access phase) None
+    abbrev pub next_access_lem : Phase V → Option (Line × Access V)
+    next_access_lem phase = cond (suiting kind phase) (line_access_lem phase) None

@@ -21,7 +21,7 @@ use Rattle.phases.specs.declared.turn.Milestone.TheVariants.{Plain, Marked, Coll
 use Rattle.phases.specs.declared.turn.Turn.{Turn}
 use Rattle.phases.specs.declared.turn.Turn.TheVariants as turn
 use Rattle.lines.specs.Suiting.{snapshot_from_lem}
-use Rattle.lines.specs.Comparing.{operand_at, all-still, all_meet, meets}
+use Rattle.lines.specs.Comparing.{operand_at, all_still_lem, all_meet, meets}
 
 -- 13: a value ends the READ, an id leads to 1. 1: a value leads to 13, an id is kept and leads to 3a. 3a: the saved value
 -- leads to 3b. 13 follows 3b, whatever it said.
@@ -157,47 +157,47 @@ found_turn (Said b) next = None
 module _ {V : Type 0} (code : V → ℕ) (kind : OperationKind) (operands : List (Operand V)) where
   -- the SNAPSHOT ends if both ids and both values of every operand are the same; else S6 follows
   abbrev pub compared : Option (Turn V)
-  compared = cond (all-still code (drop (snapshot_from_lem kind) operands)) (undisturbed kind) (on (FirstId (snapshot_from_lem kind)))
+  compared = cond (all_still_lem code (drop (snapshot_from_lem kind) operands)) (undisturbed kind) (on (FirstId (snapshot_from_lem kind)))
 
   -- 11 ends an SC. A KCSS whose first value differs says no, with its 8 for effect; one of which another differs says no, with
   -- its SNAPSHOT's effect; else its yes ends it, and its no begins afresh.
-  abbrev pub kcss-swapped : Bool → Operand V → Option (Turn V)
-  kcss-swapped said first = cond (meets code first)
+  abbrev pub kcss_swapped : Bool → Operand V → Option (Turn V)
+  kcss_swapped said first = cond (meets code first)
       (cond (all_meet code operands)
       (cond said (cond (nat_lt 1 (length operands)) (Some (turn.Ends Yes AtCollect)) (Some (turn.Ends Yes Here))) (on Attempt))
       (Some (turn.Ends No AtCollect)))
       (Some (turn.Ends No AtMark))
 
-  abbrev pub swapped-by : OperationKind → Bool → Operand V → Option (Turn V)
-  swapped-by Read said first = None
-  swapped-by Ll said first = None
-  swapped-by Sc said first = cond said (Some (turn.Ends Yes Here)) (Some (turn.Ends No Here))
-  swapped-by Snapshot said first = None
-  swapped-by Kcss said first = kcss-swapped said first
+  abbrev pub swapped_by : OperationKind → Bool → Operand V → Option (Turn V)
+  swapped_by Read said first = None
+  swapped_by Ll said first = None
+  swapped_by Sc said first = cond said (Some (turn.Ends Yes Here)) (Some (turn.Ends No Here))
+  swapped_by Snapshot said first = None
+  swapped_by Kcss said first = kcss_swapped said first
 
   abbrev pub with_first : Option (Operand V) → (Operand V → Option (Turn V)) → Option (Turn V)
   with_first None f = None
   with_first (Some o) f = f o
 
   abbrev pub swapped : Bool → Option (Turn V)
-  swapped said = with_first (operand_at operands 0) (swapped-by kind said)
+  swapped said = with_first (operand_at operands 0) (swapped_by kind said)
 
-  abbrev pub swap-turn : Seen V → Option (Turn V)
-  swap-turn (Found c) = None
-  swap-turn Stored = None
-  swap-turn (Said said) = swapped said
+  abbrev pub swap_turn : Seen V → Option (Turn V)
+  swap_turn (Found c) = None
+  swap_turn Stored = None
+  swap_turn (Said said) = swapped said
 
   -- one clause for each phase
-  abbrev pub turn-of : Phase V → Seen V → Option (Turn V)
-  turn-of Idle seen = None
-  turn-of (Reading read) seen = with_turn (read_turn_lem read seen) reading_turn
-  turn-of Attempt seen = attempt_turn seen
-  turn-of (Linking read) seen = with_turn (read_turn_lem read seen) linking_turn
-  turn-of (Save kept) seen = stored_turn seen (on (Mark kept))
-  turn-of (Mark kept) seen = mark_turn kept seen
-  turn-of (Note kept) seen = stored_turn seen (noted kind (length operands))
-  turn-of (FirstId operand) seen = found_turn seen (go_to_operand (next_operand_lem operand (length operands)) FirstId (on (FirstCollect (snapshot_from_lem kind) Look)))
-  turn-of (FirstCollect operand read) seen = with_turn (read_turn_lem read seen) (first_collected_lem kind (length operands) operand)
-  turn-of (SecondCollect operand read) seen = with_turn (read_turn_lem read seen) (second_collected_lem kind (length operands) operand)
-  turn-of (SecondId operand) seen = found_turn seen (go_to_operand (next_operand_lem operand (length operands)) SecondId compared)
-  turn-of Swap seen = swap-turn seen
+  abbrev pub turn_of : Phase V → Seen V → Option (Turn V)
+  turn_of Idle seen = None
+  turn_of (Reading read) seen = with_turn (read_turn_lem read seen) reading_turn
+  turn_of Attempt seen = attempt_turn seen
+  turn_of (Linking read) seen = with_turn (read_turn_lem read seen) linking_turn
+  turn_of (Save kept) seen = stored_turn seen (on (Mark kept))
+  turn_of (Mark kept) seen = mark_turn kept seen
+  turn_of (Note kept) seen = stored_turn seen (noted kind (length operands))
+  turn_of (FirstId operand) seen = found_turn seen (go_to_operand (next_operand_lem operand (length operands)) FirstId (on (FirstCollect (snapshot_from_lem kind) Look)))
+  turn_of (FirstCollect operand read) seen = with_turn (read_turn_lem read seen) (first_collected_lem kind (length operands) operand)
+  turn_of (SecondCollect operand read) seen = with_turn (read_turn_lem read seen) (second_collected_lem kind (length operands) operand)
+  turn_of (SecondId operand) seen = found_turn seen (go_to_operand (next_operand_lem operand (length operands)) SecondId compared)
+  turn_of Swap seen = swap_turn seen

@@ -14,22 +14,22 @@ same_ids i j = i.process == j.process && i.tag == j.tag
 
 module _ {V : Type 0} (code : V → ℕ) where
   -- values are the same when their codes are equal
-  abbrev pub same-values : Option V → Option V → Bool
-  same-values (Some x) (Some y) = code x == code y
-  same-values (Some x) None = false
-  same-values None b = false
+  abbrev pub same_values_lem : Option V → Option V → Bool
+  same_values_lem (Some x) (Some y) = code x == code y
+  same_values_lem (Some x) None = false
+  same_values_lem None b = false
 
   -- both ids and both values of an operand are the same
   abbrev pub still : Operand V → Bool
-  still o = same_ids o.first_id o.second_id && same-values o.first o.second
+  still o = same_ids o.first_id o.second_id && same_values_lem o.first o.second
 
-  abbrev pub all-still : List (Operand V) → Bool
-  all-still [] = true
-  all-still (o ∷ rest) = still o && all-still rest
+  abbrev pub all_still_lem : List (Operand V) → Bool
+  all_still_lem [] = true
+  all_still_lem (o ∷ rest) = still o && all_still_lem rest
 
   -- the value that was collected first is the expected one
   abbrev pub meets : Operand V → Bool
-  meets o = same-values o.first o.expected
+  meets o = same_values_lem o.first o.expected
 
   abbrev pub all_meet : List (Operand V) → Bool
   all_meet [] = true

@@ -1,6 +1,6 @@
 // The access that a process makes next, with the name of its line.
 ghost use Rattle.std.specs.Prelude.{◌≡◌};
-ghost use Rattle.lines.specs.Accesses.{read_access_lem, swap-value, line-access, next-access};
+ghost use Rattle.lines.specs.Accesses.{read_access_lem, swap_value_lem, line_access_lem, next_access_lem};
 
 use crate::compare::{all_meet, operand_at};
 use crate::suits::suits;
@@ -37,7 +37,7 @@ fn swap_value<V: ValueKind>(
     operands: &[Operand<V>],
     new: Option<V>,
 ) -> Option<V>
-    ensures { result ≡ swap-value coded kind operands.now new }
+    ensures { result ≡ swap_value_lem coded kind operands.now new }
 {
     match kind {
         OperationKind::Kcss if !all_meet(operands) => operand_at(operands, 0)?.first,
@@ -53,7 +53,7 @@ fn line_access<V: ValueKind>(
     new: Option<V>,
     phase: &Phase<V>,
 ) -> Option<(Line, Access<V>)>
-    ensures { result ≡ line-access coded own kind operands.now new phase.now }
+    ensures { result ≡ line_access_lem coded own kind operands.now new phase.now }
 {
     let first = operand_at(operands, 0)?.location;
     match phase {
@@ -109,7 +109,7 @@ pub fn next_access<V: ValueKind>(
     new: Option<V>,
     phase: &Phase<V>,
 ) -> Option<(Line, Access<V>)>
-    ensures { result ≡ next-access coded own kind operands.now new phase.now }
+    ensures { result ≡ next_access_lem coded own kind operands.now new phase.now }
 {
     if !suits(kind, phase) {
         return None;

@@ -1,6 +1,6 @@
 // Looking at operands: one of them, whether a collect was undisturbed, and whether values are as expected.
 ghost use Rattle.std.specs.Prelude.{◌≡◌, drop};
-ghost use Rattle.lines.specs.Comparing.{operand_at, same-values, still, all-still, meets, all_meet};
+ghost use Rattle.lines.specs.Comparing.{operand_at, same_values_lem, still, all_still_lem, meets, all_meet};
 
 use phases::Operand;
 use value::ValueKind;
@@ -17,7 +17,7 @@ pub(crate) fn operand_at<V: ValueKind>(operands: &[Operand<V>], i: usize) -> Opt
 
 // Whether both hold the same value.
 fn same_values<V: ValueKind>(a: Option<V>, b: Option<V>) -> bool
-    ensures { result ≡ same-values coded a b }
+    ensures { result ≡ same_values_lem coded a b }
 {
     match (a, b) {
         (Some(x), Some(y)) => x.same(&y),
@@ -36,7 +36,7 @@ pub(crate) fn is_still<V: ValueKind>(operand: &Operand<V>) -> bool
 
 // Whether that holds of every operand from `from` on.
 pub(crate) fn all_still<V: ValueKind>(operands: &[Operand<V>], from: usize) -> bool
-    ensures { result ≡ all-still coded (drop from operands.now) }
+    ensures { result ≡ all_still_lem coded (drop from operands.now) }
 {
     for i in from..operands.len() {
         if !is_still(&operands[i]) {

@@ -2,7 +2,7 @@
 ghost use Rattle.std.specs.Prelude.{◌≡◌, length, Some};
 ghost use Rattle.phases.specs.declared.turn.Turn.TheVariants.{On, Ends};
 ghost use Rattle.phases.specs.declared.turn.Milestone.TheVariants.{Plain};
-ghost use Rattle.lines.specs.Advancing.{read_turn_lem, finding_of_lem, next_operand_lem, noted, compared, swapped, holds_value, first_collected_lem, second_collected_lem, turn-of};
+ghost use Rattle.lines.specs.Advancing.{read_turn_lem, finding_of_lem, next_operand_lem, noted, compared, swapped, holds_value, first_collected_lem, second_collected_lem, turn_of};
 
 use crate::compare::{all_meet, all_still, is_met, operand_at};
 use crate::suits::snapshot_from;
@@ -152,7 +152,7 @@ pub fn advance<V: ValueKind>(
     phase: &Phase<V>,
     seen: &Seen<V>,
 ) -> Option<Turn<V>>
-    ensures { result ≡ turn-of coded kind operands.now phase.now seen.now }
+    ensures { result ≡ turn_of coded kind operands.now phase.now seen.now }
 {
     match (phase, seen) {
         (Phase::Reading(read), _) => match read_turn(read, seen)? {

@@ -22,7 +22,7 @@ use Rattle.phases.specs.declared.turn.Finding.TheVariants.{First, Second}
 use Rattle.phases.specs.declared.turn.Finding.TheVariants as finding
 use Rattle.lines.specs.Accesses.{with_place, read_access_lem}
 use Rattle.lines.specs.Advancing.{undisturbed}
-use Rattle.lines.specs.Comparing.{operand_at, all-still}
+use Rattle.lines.specs.Comparing.{operand_at, all_still_lem}
 use Rattle.lines.specs.Suiting.{snapshot_from_lem, collects_from_lem}
 use Rattle.lines.specs.Recording.{at_operand, put_first, put_second, put_first_id, put_second_id}
 use Rattle.protocol.specs.World.{World, changed}
@@ -183,7 +183,7 @@ module _ {V : Type 0} (code : V → ℕ) (one : (x y : V) → code x ≡ code y 
       let fits9 = refit fits i j o g (with_id_second (rows i) (w.tid (rows i).location)) k k at found_at agree (omega arith) in
       elim (cases_lt (suc i) k) [
         | inl q ↦ rw (more g fits.count q) (look p, _, _, s9_on q, refl, (_, refl, refl, goes_on_at g _ fits agree at_s9 q (omega arith)))
-        | inr q ↦ rw (last g fits.count q) (elim (cases_Bool (all-still code (drop (snapshot_from_lem kind) (at_operand j g ops)))) [
+        | inr q ↦ rw (last g fits.count q) (elim (cases_Bool (all_still_lem code (drop (snapshot_from_lem kind) (at_operand j g ops)))) [
           | inl r ↦ rw r (undisturbed_goes N t p n b w rows i c f id l kind ops new m F k j made h q at fits9 (same_rows code one fits9 r))
           | inr r ↦ rw r (
             look p,

@@ -5,7 +5,7 @@ use Rattle.memory.specs.declared.cell.TaggedId.{TaggedId}
 use Rattle.operation.specs.declared.kind.OperationKind.{OperationKind}
 use Rattle.operation.specs.declared.kind.OperationKind.TheVariants.{Kcss}
 use Rattle.phases.specs.declared.records.Operand.{Operand}
-use Rattle.lines.specs.Comparing.{operand_at, same_ids, same-values, still, all-still, meets, all_meet}
+use Rattle.lines.specs.Comparing.{operand_at, same_ids, same_values_lem, still, all_still_lem, meets, all_meet}
 use Rattle.lines.specs.Suiting.{snapshot_from_lem}
 use Rattle.protocol.specs.Phases.{Rows, Same, Meets}
 use Rattle.protocol.proofs.Changes.{clash}
@@ -58,29 +58,29 @@ same_ids_false i j e s = elim (and_cases (eqb i.process j.process) (eqb i.tag j.
 
 module _ {V : Type 0} (code : V → ℕ) (one : (x y : V) → code x ≡ code y → x ≡ y) where
   -- two values that are there, compared by their codes
-  pub same_true : (x y : Option V) (v u : V) → x ≡ Some v → y ≡ Some u → same-values code x y ≡ true → v ≡ u
+  pub same_true : (x y : Option V) (v u : V) → x ≡ Some v → y ≡ Some u → same_values_lem code x y ≡ true → v ≡ u
   same_true x y v u e g h = one v u (eqb-true (code v) (code u) (rw (e, g) at h))
 
-  pub same_false : (x y : Option V) (v u : V) → x ≡ Some v → y ≡ Some u → same-values code x y ≡ false → v ≡ u → ⊥
+  pub same_false : (x y : Option V) (v u : V) → x ≡ Some v → y ≡ Some u → same_values_lem code x y ≡ false → v ≡ u → ⊥
   same_false x y v u e g h s = eqb-false (code v) (code u) (rw (e, g) at h) (ap code s)
 
   module _ {kind : OperationKind} {k : ℕ} {rows : Rows V} {ops : List (Operand V)} (fits : Fits kind k k k rows ops) where
-    pub same_rows : all-still code (drop (snapshot_from_lem kind) ops) ≡ true → Same rows k
+    pub same_rows : all_still_lem code (drop (snapshot_from_lem kind) ops) ≡ true → Same rows k
     same_rows e i h =
-        let z = row_holds (still code) (all-still code) refl (λ _ _. refl) fits e i h in
+        let z = row_holds (still code) (all_still_lem code) refl (λ _ _. refl) fits e i h in
         let o = z.0 in
-        let q = and_parts (same_ids o.first_id o.second_id) (same-values code o.first o.second) z.2 in
+        let q = and_parts (same_ids o.first_id o.second_id) (same_values_lem code o.first o.second) z.2 in
         let ids : o.first_id ≡ o.second_id = same_ids_true o.first_id o.second_id q.0 in
         (cc (z.1.first_id, z.1.second_id), same_true o.first o.second (rows i).first (rows i).second (z.1.first h) (z.1.second h) q.1)
 
-    pub moved_rows : all-still code (drop (snapshot_from_lem kind) ops) ≡ false → Same rows k → ⊥
+    pub moved_rows : all_still_lem code (drop (snapshot_from_lem kind) ops) ≡ false → Same rows k → ⊥
     moved_rows e same =
-        let z = row_fails (still code) (all-still code) refl (λ _ _. refl) fits e in
+        let z = row_fails (still code) (all_still_lem code) refl (λ _ _. refl) fits e in
         let i = z.0 in
         let h = z.1 in
         let o = z.2 in
         let s = same i h in
-        elim (and_cases (same_ids o.first_id o.second_id) (same-values code o.first o.second) z.4) [
+        elim (and_cases (same_ids o.first_id o.second_id) (same_values_lem code o.first o.second) z.4) [
           | inl u ↦ same_ids_false o.first_id o.second_id u (cc (z.3.first_id, z.3.second_id, s.0))
           | inr u ↦ same_false o.first o.second (rows i).first (rows i).second (z.3.first h) (z.3.second h) u s.1
         ]

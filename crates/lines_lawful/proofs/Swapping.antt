@@ -8,7 +8,7 @@ use Rattle.phases.specs.declared.phase.Phase.TheVariants.{Swap}
 use Rattle.phases.specs.declared.records.Operand.{Operand}
 use Rattle.phases.specs.declared.records.Place.TheVariants.{Val}
 use Rattle.phases.specs.declared.records.Seen.TheVariants.{Said}
-use Rattle.lines.specs.Accesses.{swap-value}
+use Rattle.lines.specs.Accesses.{swap_value_lem}
 use Rattle.lines.specs.Comparing.{meets, all_meet}
 use Rattle.protocol.specs.World.{World, id_cell}
 use Rattle.protocol.specs.Phases.{Rows}
@@ -33,7 +33,7 @@ ended (suc k) c g h e = e
 module _ {V : Type 0} (code : V → ℕ) (one : (x y : V) → code x ≡ code y → x ≡ y) (N : Type 0) (t p n b : ℕ) (w : World V) (o : Operand V)
     (rest : List (Operand V)) (x u v : V) (rows : Rows V) (m c g : ℕ) (f : Bool) (ex : o.expected ≡ Some x) (fi : o.first ≡ Some v) where
   -- 11 writes the new value, or the LL's if a value is not as expected
-  writes : (r : Bool) → all_meet code (o ∷ rest) ≡ r → swap-value code Kcss (o ∷ rest) (Some u) ≡ Some (cond r u v)
+  writes : (r : Bool) → all_meet code (o ∷ rest) ≡ r → swap_value_lem code Kcss (o ∷ rest) (Some u) ≡ Some (cond r u v)
   writes true e = rw e refl
   writes false e = rw e fi
 

@@ -5,8 +5,8 @@ use Rattle.phases.specs.declared.records.Seen.{Seen}
 use Rattle.phases.specs.declared.turn.Finding.{Finding}
 use Rattle.phases.specs.declared.turn.Turn.{Turn}
 use Rattle.phases.specs.declared.turn.Turn.TheVariants as turn
-use Rattle.lines.specs.Accesses.{next-access}
-use Rattle.lines.specs.Advancing.{finding_of_lem, turn-of}
+use Rattle.lines.specs.Accesses.{next_access_lem}
+use Rattle.lines.specs.Advancing.{finding_of_lem, turn_of}
 use Rattle.lines.specs.Recording.{recorded, raised, marked_after, collected_after, effect_step}
 use Rattle.protocol.specs.World.{World}
 use Rattle.protocol.specs.Events.{Event, after}
@@ -50,13 +50,13 @@ module _ {V : Type 0} (Shows : Showing V) (t p n b : ℕ) (l : maybe.Option ℕ)
     abbrev pub Goes : World V → Running V → Phase V → Seen V → Cells V → Type 0
     Goes w (runs kind operands new phase m c f) ph seen cells =
         Having N (finding_of_lem phase seen) (λ found.
-        Having N (turn-of code kind (recorded found operands) phase seen) (λ to.
+        Having N (turn_of code kind (recorded found operands) phase seen) (λ to.
         Makes w ph cells (runs kind operands new phase m c f) found to))
 
     -- The code has a next access, and goes on so whatever that sees in the world.
     abbrev pub Steps : World V → Running V → Phase V → Type 0
     Steps w (runs kind operands new phase m c f) ph =
-        Gives (next-access code (record { process = p; tag = raised phase n }) kind operands new phase)
+        Gives (next_access_lem code (record { process = p; tag = raised phase n }) kind operands new phase)
         (λ next. Performing w next.1 (Goes w (runs kind operands new phase m c f) ph))
 
 -- Every state of the code that shows the phase of a process makes a line of the relation, at every step and in every world

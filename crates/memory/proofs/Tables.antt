@@ -4,7 +4,7 @@ use Rattle.memory.specs.declared.cell.Cell.{Cell}
 use Rattle.memory.specs.declared.fault.MemoryFault.{MemoryFault}
 use Rattle.memory.specs.declared.limits.Limits.{Limits}
 use Rattle.memory.specs.Cells.{same}
-use Rattle.memory.specs.Rules.{cell_at, first_cells, fitting, admission, store-answer, store_after, cas-answer, cas-after, table_stored, table_swapped}
+use Rattle.memory.specs.Rules.{cell_at, first_cells, fitting, admission, store_answer, store_after, cas_answer, cas_after, table_stored, table_swapped}
 use Rattle.memory.proofs.First.{first_below, first_set}
 use Rattle.memory.proofs.Admitting.{passed, store_yes, cas_told}
 
@@ -14,14 +14,14 @@ at_cond f false x y = refl
 
 -- what is to be shown of a Store that is answered r and leaves the table t
 pub record Stored {V : Type 0} (code : V → ℕ) (limits : Limits) (table : List (Cell V)) (i : ℕ) (c : Cell V) (r : Result (Unit {0}) MemoryFault) (t : List (Cell V)) : Type 0 where
-  pub answer : r ≡ store-answer code limits (first_cells table) i c
+  pub answer : r ≡ store_answer code limits (first_cells table) i c
   pub after : first_cells t ≡ store_after code limits (first_cells table) i c
   pub whole : t ≡ table_stored r table i c
 
 -- and of a CAS
 pub record Swapped {V : Type 0} (code : V → ℕ) (limits : Limits) (table : List (Cell V)) (i : ℕ) (old c : Cell V) (r : Result Bool MemoryFault) (t : List (Cell V)) : Type 0 where
-  pub answer : r ≡ cas-answer code limits (first_cells table) i old c
-  pub after : first_cells t ≡ cas-after code limits (first_cells table) i old c
+  pub answer : r ≡ cas_answer code limits (first_cells table) i old c
+  pub after : first_cells t ≡ cas_after code limits (first_cells table) i old c
   pub whole : t ≡ table_swapped r table i c
 
 -- what the tests before a change tell once they have been passed

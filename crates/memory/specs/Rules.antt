@@ -63,8 +63,8 @@ module _ {V : Type 0} (code : V → ℕ) (limits : Limits) (cells : List (Cell V
   admitted cell = nat_lt i (length cells) && fitting code limits cell
 
   -- Store refuses 1 if i is not below the length, then 2 if the given cell does not fit.
-  abbrev pub store-answer : Cell V → Result (Unit {0}) MemoryFault
-  store-answer cell = admission code limits (length cells) i cell
+  abbrev pub store_answer : Cell V → Result (Unit {0}) MemoryFault
+  store_answer cell = admission code limits (length cells) i cell
 
   -- It makes cell i the given cell; on refusal nothing changes.
   abbrev pub store_after : Cell V → List (Cell V)
@@ -72,12 +72,12 @@ module _ {V : Type 0} (code : V → ℕ) (limits : Limits) (cells : List (Cell V
 
   -- CAS refuses 1 if i is not below the length, then 2 if the new cell does not fit, even where it would have
   -- said no. The old cell is never tested for fit. It says yes if cell i is the same as the old cell, else no.
-  abbrev pub cas-answer : Cell V → Cell V → Result Bool MemoryFault
-  cas-answer old new = cond (nat_lt i (length cells)) (cond (fitting code limits new) (Ok (same code (cell_at cells i) old)) (Err (unfit i))) (Err (no_cell i))
+  abbrev pub cas_answer : Cell V → Cell V → Result Bool MemoryFault
+  cas_answer old new = cond (nat_lt i (length cells)) (cond (fitting code limits new) (Ok (same code (cell_at cells i) old)) (Err (unfit i))) (Err (no_cell i))
 
   -- With a yes it makes cell i the new cell; with a no or on refusal nothing changes.
-  abbrev pub cas-after : Cell V → Cell V → List (Cell V)
-  cas-after old new = cond (admitted new && same code (cell_at cells i) old) (slice_set cells i new) cells
+  abbrev pub cas_after : Cell V → Cell V → List (Cell V)
+  cas_after old new = cond (admitted new && same code (cell_at cells i) old) (slice_set cells i new) cells
 
 -- What stands below a memory, as a table that may be longer than 65,535, or one of words. A Store that is not refused
 -- writes place i of it, and no other place changes; a refused Store changes none.

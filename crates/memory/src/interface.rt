@@ -3,7 +3,7 @@
 ghost use Rattle.std.specs.Prelude.{◌≡◌, ◌≤◌, List, length};
 ghost use Rattle.memory.specs.declared.cell.Cell.{Cell};
 ghost use Rattle.memory.specs.declared.limits.Limits.{Limits};
-ghost use Rattle.memory.specs.Rules.{load_answer, fits_answer, store-answer, store_after, cas-answer, cas-after};
+ghost use Rattle.memory.specs.Rules.{load_answer, fits_answer, store_answer, store_after, cas_answer, cas_after};
 
 use crate::cell::Cell;
 use crate::fault::MemoryFault;
@@ -42,13 +42,13 @@ pub trait Memory<V: ValueKind> {
 
     // Makes cell i the given cell.
     fn store(&mut self, i: usize, cell: &Cell<V>) -> Result<(), MemoryFault>
-        ensures answer { result ≡ store-answer V.coded (limits self.old) (cells self.old) i cell.now }
+        ensures answer { result ≡ store_answer V.coded (limits self.old) (cells self.old) i cell.now }
         ensures after { cells self.new ≡ store_after V.coded (limits self.old) (cells self.old) i cell.now }
         ensures kept { limits self.new ≡ limits self.old };
 
     // Makes cell i the new cell and says yes if cell i is the same as the old cell, else says no.
     fn cas(&mut self, i: usize, old: &Cell<V>, new: &Cell<V>) -> Result<bool, MemoryFault>
-        ensures answer { result ≡ cas-answer V.coded (limits self.old) (cells self.old) i old.now new.now }
-        ensures after { cells self.new ≡ cas-after V.coded (limits self.old) (cells self.old) i old.now new.now }
+        ensures answer { result ≡ cas_answer V.coded (limits self.old) (cells self.old) i old.now new.now }
+        ensures after { cells self.new ≡ cas_after V.coded (limits self.old) (cells self.old) i old.now new.now }
         ensures kept { limits self.new ≡ limits self.old };
 }

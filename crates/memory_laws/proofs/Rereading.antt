@@ -6,7 +6,7 @@ use Rattle.memory.specs.declared.cell.Cell.{Cell}
 use Rattle.memory.specs.declared.cell.Cell.TheVariants.{Value, Id}
 use Rattle.memory.specs.declared.limits.Limits.{Limits}
 use Rattle.memory.specs.Cells.{same}
-use Rattle.memory.specs.Rules.{id_zero, cell_at, fitting, load_answer, cas-answer, cas-after}
+use Rattle.memory.specs.Rules.{id_zero, cell_at, fitting, load_answer, cas_answer, cas_after}
 use Rattle.memory_laws.specs.Laws.{Written, CasLaw, swapped_answer}
 use Rattle.memory.proofs.Admitting.{load_yes, cas_yes, cas_no}
 
@@ -37,12 +37,12 @@ module _ {V : Type 0} (code : V → ℕ) (decoded : ℕ → Option V) (returned 
   same_self (Value x) = grind (arith, nat_tests)
   same_self (Id i) = grind (arith, nat_tests)
 
-  module _ (limits : Limits) (cells after : List (Cell V)) (i : ℕ) (old new : Cell V) (is-after : after ≡ cas-after code limits cells i old new) where
+  module _ (limits : Limits) (cells after : List (Cell V)) (i : ℕ) (old new : Cell V) (is-after : after ≡ cas_after code limits cells i old new) where
     -- what an answer that is no refusal tells
-    heard : (said : Bool) → Ok said ≡ cas-answer code limits cells i old new → (i < length cells) × (fitting code limits new ≡ true) × (same code (cell_at cells i) old ≡ said)
+    heard : (said : Bool) → Ok said ≡ cas_answer code limits cells i old new → (i < length cells) × (fitting code limits new ≡ true) × (same code (cell_at cells i) old ≡ said)
     heard said e = (grind (arith, nat_tests), grind (arith, nat_tests), grind (arith, nat_tests))
 
-    pub cas_law : (said : Bool) (found : Cell V) → Ok said ≡ cas-answer code limits cells i old new → Ok found ≡ load_answer after i → CasLaw (Ok (said, found)) cells after i old new
+    pub cas_law : (said : Bool) (found : Cell V) → Ok said ≡ cas_answer code limits cells i old new → Ok found ≡ load_answer after i → CasLaw (Ok (said, found)) cells after i old new
     cas_law true found e l =
         let h = heard true e in
         let y = is-after ∙ (cas_yes code limits cells i new h.0 h.1 old h.2).1 in
@@ -62,7 +62,7 @@ module _ {V : Type 0} (code : V → ℕ) (decoded : ℕ → Option V) (returned 
         (differs, ap (λ cs. load_answer cs i) (sym y) ∙ sym l, y)
 
     -- what is found after it
-    pub cas_found : (said : Bool) (found : Cell V) → Ok said ≡ cas-answer code limits cells i old new → Ok found ≡ load_answer after i → Ok (said, found) ≡ swapped_answer (cas-answer code limits cells i old new) (cell_at cells i) new
+    pub cas_found : (said : Bool) (found : Cell V) → Ok said ≡ cas_answer code limits cells i old new → Ok found ≡ load_answer after i → Ok (said, found) ≡ swapped_answer (cas_answer code limits cells i old new) (cell_at cells i) new
     cas_found true found e l =
         let law = cas_law true found e l in
         ap (λ x. Ok (true, x)) law.1 ∙ ap (λ a. swapped_answer a (cell_at cells i) new) e

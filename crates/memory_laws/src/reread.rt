@@ -1,7 +1,7 @@
 // A change and the Load after it, over any memory. The contracts say what a change means in terms of Loads.
 // Uses the interface.
 ghost use Rattle.std.specs.Prelude.{◌≡◌};
-ghost use Rattle.memory.specs.Rules.{cell_at, store-answer, store_after, cas-answer, cas-after};
+ghost use Rattle.memory.specs.Rules.{cell_at, store_answer, store_after, cas_answer, cas_after};
 ghost use Rattle.memory_laws.specs.Laws.{StoreLaw, CasLaw, stored_answer, swapped_answer};
 
 use memory::{Cell, Memory, MemoryFault};
@@ -13,7 +13,7 @@ pub fn store_and_load<V: ValueKind, M: Memory<V>>(
     i: usize,
     cell: &Cell<V>,
 ) -> Result<Cell<V>, MemoryFault>
-    ensures answer { result ≡ stored_answer (store-answer coded (limits memory.old) (cells memory.old) i cell.now) cell.now }
+    ensures answer { result ≡ stored_answer (store_answer coded (limits memory.old) (cells memory.old) i cell.now) cell.now }
     ensures after { cells memory.new ≡ store_after coded (limits memory.old) (cells memory.old) i cell.now }
     ensures kept { limits memory.new ≡ limits memory.old }
     ensures law { StoreLaw result (cells memory.old) (cells memory.new) i cell.now }
@@ -29,8 +29,8 @@ pub fn cas_and_load<V: ValueKind, M: Memory<V>>(
     old: &Cell<V>,
     new: &Cell<V>,
 ) -> Result<(bool, Cell<V>), MemoryFault>
-    ensures answer { result ≡ swapped_answer (cas-answer coded (limits memory.old) (cells memory.old) i old.now new.now) (cell_at (cells memory.old) i) new.now }
-    ensures after { cells memory.new ≡ cas-after coded (limits memory.old) (cells memory.old) i old.now new.now }
+    ensures answer { result ≡ swapped_answer (cas_answer coded (limits memory.old) (cells memory.old) i old.now new.now) (cell_at (cells memory.old) i) new.now }
+    ensures after { cells memory.new ≡ cas_after coded (limits memory.old) (cells memory.old) i old.now new.now }
     ensures kept { limits memory.new ≡ limits memory.old }
     ensures law { CasLaw result (cells memory.old) (cells memory.new) i old.now new.now }
 {

@@ -3,7 +3,7 @@
 #![tactic(auto)]
 
 ghost use Rattle.std.specs.Prelude.{◌≡◌};
-ghost use Rattle.memory.specs.Rules.{first_cells, first_few, open_limits_lem, load_answer, store-answer, store_after, cas-answer, cas-after, table_stored, table_swapped};
+ghost use Rattle.memory.specs.Rules.{first_cells, first_few, open_limits_lem, load_answer, store_answer, store_after, cas_answer, cas_after, table_stored, table_swapped};
 
 use memory::{
     Cell, Limits, Memory, MemoryFault, admit_change, counted_cells, open_limits, same_cell,
@@ -49,7 +49,7 @@ impl<'a, V: ValueKind> Memory<V> for OpenMemory<'a, V> {
     // Beyond the interface, no other cell of the table changes, be it past the first 65,535, and the caller's table is
     // the one that changes.
     fn store(&mut self, i: usize, cell: &Cell<V>) -> Result<(), MemoryFault>
-        ensures answer { result ≡ store-answer coded (open_limits_lem greatest) (first_cells self.old.cells.now) i cell.now }
+        ensures answer { result ≡ store_answer coded (open_limits_lem greatest) (first_cells self.old.cells.now) i cell.now }
         ensures after { first_cells self.new.cells.now ≡ store_after coded (open_limits_lem greatest) (first_cells self.old.cells.now) i cell.now }
         ensures kept { open_limits_lem greatest ≡ open_limits_lem greatest }
         ensures table { self.new.cells.now ≡ table_stored result self.old.cells.now i cell.now }
@@ -61,8 +61,8 @@ impl<'a, V: ValueKind> Memory<V> for OpenMemory<'a, V> {
     }
 
     fn cas(&mut self, i: usize, old: &Cell<V>, new: &Cell<V>) -> Result<bool, MemoryFault>
-        ensures answer { result ≡ cas-answer coded (open_limits_lem greatest) (first_cells self.old.cells.now) i old.now new.now }
-        ensures after { first_cells self.new.cells.now ≡ cas-after coded (open_limits_lem greatest) (first_cells self.old.cells.now) i old.now new.now }
+        ensures answer { result ≡ cas_answer coded (open_limits_lem greatest) (first_cells self.old.cells.now) i old.now new.now }
+        ensures after { first_cells self.new.cells.now ≡ cas_after coded (open_limits_lem greatest) (first_cells self.old.cells.now) i old.now new.now }
         ensures kept { open_limits_lem greatest ≡ open_limits_lem greatest }
         ensures table { self.new.cells.now ≡ table_swapped result self.old.cells.now i new.now }
         ensures lender { self.new.cells.ghost_name ≡ self.old.cells.ghost_name }

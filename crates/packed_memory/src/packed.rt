@@ -1,7 +1,7 @@
 // Packed memory: cells kept as 64-bit words in a table that the caller lends.
 // Uses the interface and the words of cells. Cells are compared, never words.
 ghost use Rattle.std.specs.Prelude.{◌≡◌, map};
-ghost use Rattle.memory.specs.Rules.{first_few, open_limits_lem, store-answer, store_after, cas-answer, cas-after, table_stored, table_swapped};
+ghost use Rattle.memory.specs.Rules.{first_few, open_limits_lem, store_answer, store_after, cas_answer, cas_after, table_stored, table_swapped};
 ghost use Rattle.packed_memory.specs.Words.{word_of, cell_of, cells_of};
 
 use crate::words::{pack, unpack};
@@ -40,7 +40,7 @@ impl<'a, V: ValueKind> Memory<V> for PackedMemory<'a, V> {
 
     // Beyond the interface, exactly one word is written, the word of the cell, and it is one of the caller's table.
     fn store(&mut self, i: usize, cell: &Cell<V>) -> Result<(), MemoryFault>
-        ensures answer { result ≡ store-answer coded (open_limits_lem greatest) (cells_of decoded self.old.words.now) i cell.now }
+        ensures answer { result ≡ store_answer coded (open_limits_lem greatest) (cells_of decoded self.old.words.now) i cell.now }
         ensures after { cells_of decoded self.new.words.now ≡ store_after coded (open_limits_lem greatest) (cells_of decoded self.old.words.now) i cell.now }
         ensures kept { open_limits_lem greatest ≡ open_limits_lem greatest }
         ensures words { self.new.words.now ≡ table_stored result self.old.words.now i (word_of coded cell.now) }
@@ -58,8 +58,8 @@ impl<'a, V: ValueKind> Memory<V> for PackedMemory<'a, V> {
 
     // Beyond the interface, a yes writes exactly one word of the caller's table, and nothing else changes any.
     fn cas(&mut self, i: usize, old: &Cell<V>, new: &Cell<V>) -> Result<bool, MemoryFault>
-        ensures answer { result ≡ cas-answer coded (open_limits_lem greatest) (cells_of decoded self.old.words.now) i old.now new.now }
-        ensures after { cells_of decoded self.new.words.now ≡ cas-after coded (open_limits_lem greatest) (cells_of decoded self.old.words.now) i old.now new.now }
+        ensures answer { result ≡ cas_answer coded (open_limits_lem greatest) (cells_of decoded self.old.words.now) i old.now new.now }
+        ensures after { cells_of decoded self.new.words.now ≡ cas_after coded (open_limits_lem greatest) (cells_of decoded self.old.words.now) i old.now new.now }
         ensures kept { open_limits_lem greatest ≡ open_limits_lem greatest }
         ensures words { self.new.words.now ≡ table_swapped result self.old.words.now i (word_of coded new.now) }
         ensures lender { self.new.words.ghost_name ≡ self.old.words.ghost_name }

@@ -22,25 +22,25 @@ use Rattle.protocol.proofs.Costing.{high, costs_low, costs_plain, costs_set, off
 module _ {V : Type 0} (w : World V) (p n : ℕ) (F : Purpose V) (rows : Rows V) (k : ℕ) where
   -- S6
   module _ (i : ℕ) where
-    abbrev with-6 : Rows V
-    with-6 = changed rows i (with_id_first (rows i) (w.tid (rows i).location))
+    abbrev with_6 : Rows V
+    with_6 = changed rows i (with_id_first (rows i) (w.tid (rows i).location))
 
-    ids_6 : IdsStand w.tid rows i → IdsStand w.tid with-6 (suc i)
+    ids_6 : IdsStand w.tid rows i → IdsStand w.tid with_6 (suc i)
     ids_6 d = more (λ r. w.tid r.location ≡ r.id_first) rows i _ d refl
 
-    pub s6_falls : (N : ℕ) → suc i < k → LeftIn w.val w.tid p n (first_id F rows k i) (suc N) → LeftIn w.val w.tid p n (first_id F with-6 k (suc i)) N
+    pub s6_falls : (N : ℕ) → suc i < k → LeftIn w.val w.tid p n (first_id F rows k i) (suc N) → LeftIn w.val w.tid p n (first_id F with_6 k (suc i)) N
     s6_falls N y (f, l, E, R, inl h) = (fits_set rows i _ refl F k f, y, E, R, inl (let c = costs_set rows i (with_id_first (rows i) (w.tid (rows i).location)) refl w.val k in omega arith))
     s6_falls N y (f, l, E, R, inr (d, h)) =
         (fits_set rows i _ refl F k f, y, E, R, inr (ids_6 d, let c = costs_set rows i (with_id_first (rows i) (w.tid (rows i).location)) refl w.val k in omega arith))
 
     pub s6_ends : (N : ℕ) → k ≤ suc i → LeftIn w.val w.tid p n (first_id F rows k i) (suc N)
-        → LeftIn w.val w.tid p n (first_collect F with-6 k zero looks) N
+        → LeftIn w.val w.tid p n (first_collect F with_6 k zero looks) N
     s6_ends N y (f, l, E, R, inl h) = (
       fits_set rows i _ refl F k f,
       omega arith,
       E,
       R,
-      cost (w.val (with-6 zero).location),
+      cost (w.val (with_6 zero).location),
       omega arith,
       inl (let c = costs_set rows i (with_id_first (rows i) (w.tid (rows i).location)) refl w.val k in omega arith),
     )
@@ -49,7 +49,7 @@ module _ {V : Type 0} (w : World V) (p n : ℕ) (F : Purpose V) (rows : Rows V) 
       omega arith,
       E,
       R,
-      cost (w.val (with-6 zero).location),
+      cost (w.val (with_6 zero).location),
       omega arith,
       inr (
         (λ j m. ids_6 d j (omega arith)),
@@ -90,40 +90,40 @@ module _ {V : Type 0} (w : World V) (p n : ℕ) (F : Purpose V) (rows : Rows V) 
     one : cost (w.val (rows i).location) ≡ 1
     one = ap cost x
 
-    abbrev with-1 : Rows V
-    with-1 = changed rows i (with_first (rows i) v)
+    abbrev with_1 : Rows V
+    with_1 = changed rows i (with_first (rows i) v)
 
-    same_1 : costs w.val with-1 k ≡ costs w.val rows k
+    same_1 : costs w.val with_1 k ≡ costs w.val rows k
     same_1 = costs_set rows i (with_first (rows i) v) refl w.val k
 
-    firsts_1 : FirstsStand w.val rows i → FirstsStand w.val with-1 (suc i)
+    firsts_1 : FirstsStand w.val rows i → FirstsStand w.val with_1 (suc i)
     firsts_1 g = more (λ r. w.val r.location ≡ Value r.first) rows i _ g x
 
-    ids_1 : i < k → IdsStand w.tid rows k → IdsStand w.tid with-1 k
+    ids_1 : i < k → IdsStand w.tid rows k → IdsStand w.tid with_1 k
     ids_1 l d = hold (λ r. w.tid r.location ≡ r.id_first) rows i _ k d l (λ e. e)
 
     pub c1_gets : suc i < k → LeftIn w.val w.tid p n (first_collect F rows k i looks) (suc N)
-        → LeftIn w.val w.tid p n (first_collect F with-1 k (suc i) looks) N
+        → LeftIn w.val w.tid p n (first_collect F with_1 k (suc i) looks) N
     c1_gets y (f, l, E, R, r, rd, inl h) =
-        (fits_set rows i _ refl F k f, y, E, R, cost (w.val (with-1 (suc i)).location), omega arith, inl (let c = same_1 in let o = one in omega arith))
+        (fits_set rows i _ refl F k f, y, E, R, cost (w.val (with_1 (suc i)).location), omega arith, inl (let c = same_1 in let o = one in omega arith))
     c1_gets y (f, l, E, R, r, rd, inr (d, g, h)) = (
       fits_set rows i _ refl F k f,
       y,
       E,
       R,
-      cost (w.val (with-1 (suc i)).location),
+      cost (w.val (with_1 (suc i)).location),
       omega arith,
       inr (ids_1 l d, firsts_1 g, let c = same_1 in let o = one in omega arith),
     )
 
     pub c1_ends : (o : ℕ) → k ≤ suc i → LeftIn w.val w.tid p n (first_collect F rows k i looks) (suc N)
-        → LeftIn w.val w.tid p n (second_collect F with-1 k o zero looks) N
+        → LeftIn w.val w.tid p n (second_collect F with_1 k o zero looks) N
     c1_ends o y (f, l, E, R, r, rd, inl h) = (
       fits_set rows i _ refl F k f,
       omega arith,
       E,
       R,
-      inl (cost (w.val (with-1 zero).location), omega arith, let c = same_1 in let u = one in omega arith),
+      inl (cost (w.val (with_1 zero).location), omega arith, let c = same_1 in let u = one in omega arith),
     )
     c1_ends o y (f, l, E, R, r, rd, inr (d, g, h)) = (
       fits_set rows i _ refl F k f,
@@ -140,35 +140,35 @@ module _ {V : Type 0} (w : World V) (p n : ℕ) (F : Purpose V) (rows : Rows V) 
     )
 
     -- and in the second
-    abbrev with-2 : Rows V
-    with-2 = changed rows i (with_second (rows i) v)
+    abbrev with_2 : Rows V
+    with_2 = changed rows i (with_second (rows i) v)
 
-    same_2 : costs w.val with-2 k ≡ costs w.val rows k
+    same_2 : costs w.val with_2 k ≡ costs w.val rows k
     same_2 = costs_set rows i (with_second (rows i) v) refl w.val k
 
-    ids_2 : i < k → IdsStand w.tid rows k → IdsStand w.tid with-2 k
+    ids_2 : i < k → IdsStand w.tid rows k → IdsStand w.tid with_2 k
     ids_2 l d = hold (λ r. w.tid r.location ≡ r.id_first) rows i _ k d l (λ e. e)
 
-    firsts_2 : i < k → FirstsStand w.val rows k → FirstsStand w.val with-2 k
+    firsts_2 : i < k → FirstsStand w.val rows k → FirstsStand w.val with_2 k
     firsts_2 l g = hold (λ r. w.val r.location ≡ Value r.first) rows i _ k g l (λ e. e)
 
-    agree_2 : i < k → FirstsStand w.val rows k → ValuesAgree rows i → ValuesAgree with-2 (suc i)
+    agree_2 : i < k → FirstsStand w.val rows k → ValuesAgree rows i → ValuesAgree with_2 (suc i)
     agree_2 l g a = more (λ r. r.first ≡ r.second) rows i _ a (let z = g i l in cc)
 
     pub c2_gets : (o : ℕ) → suc i < k → LeftIn w.val w.tid p n (second_collect F rows k o i looks) (suc N)
-        → LeftIn w.val w.tid p n (second_collect F with-2 k o (suc i) looks) N
+        → LeftIn w.val w.tid p n (second_collect F with_2 k o (suc i) looks) N
     c2_gets o y (f, l, E, R, inl (r, rd, h)) = (
       fits_set rows i _ refl F k f,
       y,
       E,
       R,
-      inl (cost (w.val (with-2 (suc i)).location), omega arith, let c = same_2 in let u = one in omega arith),
+      inl (cost (w.val (with_2 (suc i)).location), omega arith, let c = same_2 in let u = one in omega arith),
     )
     c2_gets o y (f, l, E, R, inr (q, d, g, a, h)) =
         (fits_set rows i _ refl F k f, y, E, R, inr (refl, ids_2 l d, firsts_2 l g, agree_2 l g a, omega arith))
 
     pub c2_ends : (o : ℕ) → k ≤ suc i → LeftIn w.val w.tid p n (second_collect F rows k o i looks) (suc N)
-        → LeftIn w.val w.tid p n (second_id F with-2 k o zero) N
+        → LeftIn w.val w.tid p n (second_id F with_2 k o zero) N
     c2_ends o y (f, l, E, R, inl (r, rd, h)) =
         (fits_set rows i _ refl F k f, omega arith, E, R, inl (let c = same_2 in let u = one in omega arith))
     c2_ends o y (f, l, E, R, inr (q, d, g, a, h)) = (
@@ -181,38 +181,38 @@ module _ {V : Type 0} (w : World V) (p n : ℕ) (F : Purpose V) (rows : Rows V) 
 
   -- S9
   module _ (i N o : ℕ) where
-    abbrev with-9 : Rows V
-    with-9 = changed rows i (with_id_second (rows i) (w.tid (rows i).location))
+    abbrev with_9 : Rows V
+    with_9 = changed rows i (with_id_second (rows i) (w.tid (rows i).location))
 
-    same_9 : costs w.val with-9 k ≡ costs w.val rows k
+    same_9 : costs w.val with_9 k ≡ costs w.val rows k
     same_9 = costs_set rows i (with_id_second (rows i) (w.tid (rows i).location)) refl w.val k
 
-    ids_9 : i < k → IdsStand w.tid rows k → IdsStand w.tid with-9 k
+    ids_9 : i < k → IdsStand w.tid rows k → IdsStand w.tid with_9 k
     ids_9 l d = hold (λ r. w.tid r.location ≡ r.id_first) rows i _ k d l (λ e. e)
 
-    firsts_9 : i < k → FirstsStand w.val rows k → FirstsStand w.val with-9 k
+    firsts_9 : i < k → FirstsStand w.val rows k → FirstsStand w.val with_9 k
     firsts_9 l g = hold (λ r. w.val r.location ≡ Value r.first) rows i _ k g l (λ e. e)
 
-    values_9 : i < k → ValuesAgree rows k → ValuesAgree with-9 k
+    values_9 : i < k → ValuesAgree rows k → ValuesAgree with_9 k
     values_9 l a = hold (λ r. r.first ≡ r.second) rows i _ k a l (λ e. e)
 
-    agree_9 : i < k → IdsStand w.tid rows k → IdsAgree rows i → IdsAgree with-9 (suc i)
+    agree_9 : i < k → IdsStand w.tid rows k → IdsAgree rows i → IdsAgree with_9 (suc i)
     agree_9 l d b = more (λ r. r.id_first ≡ r.id_second) rows i _ b (sym (d i l))
 
     pub s9_falls : suc i < k → LeftIn w.val w.tid p n (second_id F rows k o i) (suc N)
-        → LeftIn w.val w.tid p n (second_id F with-9 k o (suc i)) N
+        → LeftIn w.val w.tid p n (second_id F with_9 k o (suc i)) N
     s9_falls y (f, l, E, R, inl h) = (fits_set rows i _ refl F k f, y, E, R, inl (let c = same_9 in omega arith))
     s9_falls y (f, l, E, R, inr (d, g, a, b, h)) =
         (fits_set rows i _ refl F k f, y, E, R, inr (ids_9 l d, firsts_9 l g, values_9 l a, agree_9 l d b, omega arith))
 
-    pub s9_repeats : k ≤ suc i → (Same with-9 k → ⊥) → LeftIn w.val w.tid p n (second_id F rows k o i) (suc N)
-        → LeftIn w.val w.tid p n (first_id F with-9 k zero) N
+    pub s9_repeats : k ≤ suc i → (Same with_9 k → ⊥) → LeftIn w.val w.tid p n (second_id F rows k o i) (suc N)
+        → LeftIn w.val w.tid p n (first_id F with_9 k zero) N
     s9_repeats y z (f, l, E, R, inl h) = (fits_set rows i _ refl F k f, omega arith, E, R, inr ((λ j m. absurd (omega arith)), let c = same_9 in omega arith))
     s9_repeats y z (f, l, E, R, inr (d, g, a, b, h)) = absurd (z (λ j m. (agree_9 l d b j (omega arith), values_9 l a j m)))
 
 module _ {V : Type 0} (w : World V) (p n a : ℕ) (x u v : V) (t8 : ℕ) (rows : Rows V) (k i N o : ℕ) where
   pub s9_goes : k ≤ suc i → LeftIn w.val w.tid p n (second_id (inside a x u v t8) rows k o i) (suc N)
-      → LeftIn w.val w.tid p n (swap a x u v t8 (with-9 w p n (inside a x u v t8) rows k i N o) k o) N
+      → LeftIn w.val w.tid p n (swap a x u v t8 (with_9 w p n (inside a x u v t8) rows k i N o) k o) N
   s9_goes y (f, l, E, inl e, inl h) = (off_set rows i _ refl a k f, inl (let c = same_9 w p n (inside a x u v t8) rows k i N o in omega arith))
   s9_goes y (f, l, E, inl e, inr (d, g, b, c, h)) = (
     off_set rows i _ refl a k f,

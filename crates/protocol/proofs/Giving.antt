@@ -80,11 +80,11 @@ module _ {V : Type 0} (R : Run V) where
   abbrev Nothing : ℕ → List (Given V) → Type 0
   Nothing p list = (q : Request V) → WasGiven p q list → ⊥
 
-  abbrev Given-here : ℕ → List (Given V) → ℕ → ℕ → Option (Request V) → Type 0
-  Given-here t list p b x = (q : Request V) × (x ≡ some q) × (b ≡ t) × WasGiven p q list × ((q' : Request V) → WasGiven p q' list → q' ≡ q)
+  abbrev GivenHere : ℕ → List (Given V) → ℕ → ℕ → Option (Request V) → Type 0
+  GivenHere t list p b x = (q : Request V) × (x ≡ some q) × (b ≡ t) × WasGiven p q list × ((q' : Request V) → WasGiven p q' list → q' ≡ q)
 
   abbrev Dealt : ℕ → List (Given V) → ℕ → Process V → Type 0
-  Dealt t list p r = (Nothing p list × Before t p r) ⊎ Given-here t list p (since_of r) (asked r)
+  Dealt t list p r = (Nothing p list × Before t p r) ⊎ GivenHere t list p (since_of r) (asked r)
 
   -- a process that rests was given nothing before
   nothing_yet : (t p : ℕ) (list : List (Given V)) (r : Process V) → Rests r → Dealt t list p r → Nothing p list
@@ -119,7 +119,7 @@ module _ {V : Type 0} (R : Run V) where
 
   -- once the Starts of step t are told
   told : (t p b : ℕ) (list : List (Given V)) → R.starts t ≡ list → (x : Option (Request V))
-      → (Nothing p list × Runs t t p b x) ⊎ Given-here t list p b x → Runs (suc t) t p b x
+      → (Nothing p list × Runs t t p b x) ⊎ GivenHere t list p b x → Runs (suc t) t p b x
   told t p b list e none i = tt
   told t p b list e (some q) (inl i) = (
     i.1.0,

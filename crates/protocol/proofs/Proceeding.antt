@@ -166,10 +166,10 @@ module _ {V : Type 0} (d : Discrete V) where
 
 -- while the process steps alone
 module _ {V : Type 0} (p : ℕ) (m : Machine V) (q : Request V) (S : Sound m p) (f : Fits (m.processes p)) (a : asked (m.processes p) ≡ some q) where
-  abbrev Runs-on : Machine V → Type 0
-  Runs-on b = Sound b p × Fits (b.processes p) × (asked (b.processes p) ≡ some q)
+  abbrev RunsOn : Machine V → Type 0
+  RunsOn b = Sound b p × Fits (b.processes p) × (asked (b.processes p) ≡ some q)
 
-  with_starts : {s : ℕ} {b b' : Machine V} {list : List (Given V)} → Begun s b list b' → Runs-on b → Runs-on b'
+  with_starts : {s : ℕ} {b b' : Machine V} {list : List (Given V)} → Begun s b list b' → RunsOn b → RunsOn b'
   with_starts {b = b} {b' = b'} u (T, g, h) =
       let w = begun_same u in
       let i = still_runs u p (λ (n, l, c, i). subst (λ (x : Process V). Fits x) i g) in (
@@ -182,7 +182,7 @@ module _ {V : Type 0} (p : ℕ) (m : Machine V) (q : Request V) (S : Sound m p) 
         ap asked i ∙ h,
       )
 
-  with_line : (s : ℕ) (b : Machine V) (e : Event V) (r : Process V) → Line s p (world b) (b.processes p) e r none → Runs-on b → Runs-on (turned b e p r)
+  with_line : (s : ℕ) (b : Machine V) (e : Event V) (r : Process V) → Line s p (world b) (b.processes p) e r none → RunsOn b → RunsOn (turned b e p r)
   with_line s b e r l (T, g, h) =
       let i = changed_here b.processes p r in (
         stays_sound s p b e r none l T,
@@ -190,7 +190,7 @@ module _ {V : Type 0} (p : ℕ) (m : Machine V) (q : Request V) (S : Sound m p) 
         ap asked i ∙ keeps l ∙ h,
       )
 
-  runs_on : {N : ℕ} {b : Machine V} → Alone p m N b → Runs-on b
+  runs_on : {N : ℕ} {b : Machine V} → Alone p m N b → RunsOn b
   runs_on no_line = (S, f, a)
   runs_on (then_starts x s u) = with_starts u (runs_on x)
   runs_on (then_line {b = b} x s e r l) = with_line s b e r l (runs_on x)

@@ -64,16 +64,16 @@ line_end = codes "\n"
 
 module _ {V : Type 0} (code : V → ℕ) where
   -- what an operation does: a KCSS names its locations, then the codes that it expects there, then its new code
-  abbrev pub act-words : Act V → List ℕ
-  act-words (read a) = read_words a
-  act-words (ll a) = ll_words a
-  act-words (sc a v) = sc_words a (code v)
-  act-words (snapshot locations) = snapshot_word ++ flat_map spaced locations
-  act-words (kcss v operands) = kcss_word ++ (flat_map (λ o. spaced o.location) operands
+  abbrev pub act_words : Act V → List ℕ
+  act_words (read a) = read_words a
+  act_words (ll a) = ll_words a
+  act_words (sc a v) = sc_words a (code v)
+  act_words (snapshot locations) = snapshot_word ++ flat_map spaced locations
+  act_words (kcss v operands) = kcss_word ++ (flat_map (λ o. spaced o.location) operands
       ++ (expecting_word ++ (flat_map (λ o. spaced (code o.expected)) operands ++ new_words (code v))))
 
-  abbrev pub operation-line : ℕ → Op V → List ℕ
-  operation-line i o = operation_front (i + 1) o.process ++ (act-words o.act ++ line_end)
+  abbrev pub operation_line : ℕ → Op V → List ℕ
+  operation_line i o = operation_front (i + 1) o.process ++ (act_words o.act ++ line_end)
 
 unfoldable pub schedule_heading : List ℕ
 schedule_heading = codes "schedule\n"

@@ -8,7 +8,7 @@ use Rattle.sheet.specs.declared.ScriptItem.{ScriptItem}
 use Rattle.sheet.specs.Parts.{Op, Parts}
 use Rattle.sheet.specs.Reading.{read_answer}
 use Rattle.report.specs.declared.answer.Report.{Report}
-use Rattle.report.specs.Lines.{size_line, header_line, values_heading, value_line, operations_heading, operation-line, schedule_heading, item_line, started_by, again_line, refusal_line}
+use Rattle.report.specs.Lines.{size_line, header_line, values_heading, value_line, operations_heading, operation_line, schedule_heading, item_line, started_by, again_line, refusal_line}
 
 -- the text was added at the end, unless memory failed
 abbrev pub Adds : {E : Type 0} → Result (Unit {0}) E → List ℕ → List ℕ → List ℕ → Type 0
@@ -25,26 +25,26 @@ turns i started [] = []
 turns i started (x ∷ rest) = item_line (i + 1) started x ++ turns (i + 1) (started_by x started) rest
 
 module _ {V : Type 0} (code : V → ℕ) where
-  abbrev pub values-text : List V → List ℕ
-  values-text values = values_heading ++ numbered (λ i v. value_line i (code v)) 0 values
+  abbrev pub values_text : List V → List ℕ
+  values_text values = values_heading ++ numbered (λ i v. value_line i (code v)) 0 values
 
-  abbrev pub operations-text : List (Op V) → List ℕ
-  operations-text ops = operations_heading ++ numbered (operation-line code) 0 ops
+  abbrev pub operations_text : List (Op V) → List ℕ
+  operations_text ops = operations_heading ++ numbered (operation_line code) 0 ops
 
 abbrev pub script_text : List ScriptItem → List ℕ
 script_text items = schedule_heading ++ turns 0 0 items
 
 module _ {V : Type 0} (code : V → ℕ) (number : ℕ) where
   -- what a sheet of this length says
-  abbrev pub parts-text : ℕ → Parts V → List ℕ
-  parts-text long p = size_line long ++ (header_line number (length p.initial) p.processes (length p.script)
-      ++ (values-text code p.initial ++ (operations-text code p.operations ++ script_text p.script)))
+  abbrev pub parts_text : ℕ → Parts V → List ℕ
+  parts_text long p = size_line long ++ (header_line number (length p.initial) p.processes (length p.script)
+      ++ (values_text code p.initial ++ (operations_text code p.operations ++ script_text p.script)))
 
   -- A sheet that is read is described, and said to come back the same when it is written again; one that is
   -- refused gets one line.
-  abbrev pub answer-text : ℕ → Result (Parts V) SheetFault → List ℕ
-  answer-text long (Ok p) = parts-text long p ++ again_line long true
-  answer-text long (Err f) = refusal_line f
+  abbrev pub answer_text : ℕ → Result (Parts V) SheetFault → List ℕ
+  answer_text long (Ok p) = parts_text long p ++ again_line long true
+  answer_text long (Err f) = refusal_line f
 
 -- a sheet whose byte 1 is 2 is read as links, any other as numbers
 abbrev pub is_links_lem : List ℕ → Bool
@@ -57,7 +57,7 @@ abbrev pub numbers_answer : List ℕ → Result (Parts Number) SheetFault
 numbers_answer bytes = read_answer number_of bytes 1
 
 unfoldable pub report_text : List ℕ → List ℕ
-report_text bytes = cond (is_links_lem bytes) (answer-text link_code 2 (length bytes) (links_answer bytes)) (answer-text (λ v. v.value) 1 (length bytes) (numbers_answer bytes))
+report_text bytes = cond (is_links_lem bytes) (answer_text link_code 2 (length bytes) (links_answer bytes)) (answer_text (λ v. v.value) 1 (length bytes) (numbers_answer bytes))
 
 unfoldable pub is_accepted : List ℕ → Bool
 is_accepted bytes = cond (is_links_lem bytes) (is_ok (links_answer bytes)) (is_ok (numbers_answer bytes))

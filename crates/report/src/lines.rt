@@ -2,7 +2,7 @@
 // lines at the end of a text. Uses the schedule's items of `sheet` and the codes of `value`.
 ghost use Rattle.std.specs.Prelude.{◌≡◌, ◌+◌, ◌^◌, ◌<◌, string_bytes};
 ghost use Rattle.report.specs.Lines.{size_line, header_line, values_heading, value_line, schedule_heading, item_line, started_by};
-ghost use Rattle.report.specs.Texts.{Adds, values-text, script_text};
+ghost use Rattle.report.specs.Texts.{Adds, values_text, script_text};
 
 use sheet::ScriptItem;
 use std::fmt;
@@ -46,7 +46,7 @@ fn push_value(out: &mut String, location: usize, code: u64) -> fmt::Result
 
 // The initial values.
 pub(crate) fn push_values<V: ValueKind>(out: &mut String, values: &[V]) -> fmt::Result
-    ensures { Adds result (string_bytes out.old) (values-text coded values.now) (string_bytes out.new) }
+    ensures { Adds result (string_bytes out.old) (values_text coded values.now) (string_bytes out.new) }
 {
     push_values_heading(out)?;
     for (location, value) in values.iter().enumerate() {

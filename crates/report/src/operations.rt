@@ -3,8 +3,8 @@
 ghost use Rattle.std.specs.Prelude.{◌+◌, ◌^◌, ◌<◌, ◌++◌, map, string_bytes};
 ghost use Rattle.std.specs.List.{flat_map};
 ghost use Rattle.sheet.specs.Parts.{act_of, op_of};
-ghost use Rattle.report.specs.Lines.{operations_heading, spaced, read_words, ll_words, sc_words, snapshot_word, kcss_word, expecting_word, new_words, act-words, operation-line};
-ghost use Rattle.report.specs.Texts.{Adds, operations-text};
+ghost use Rattle.report.specs.Lines.{operations_heading, spaced, read_words, ll_words, sc_words, snapshot_word, kcss_word, expecting_word, new_words, act_words, operation_line};
+ghost use Rattle.report.specs.Texts.{Adds, operations_text};
 
 use sheet::{Action, Operand, Operation};
 use std::fmt;
@@ -84,7 +84,7 @@ fn push_kcss<V: ValueKind>(out: &mut String, operands: &[Operand<V>], new: u64) 
 
 // What an operation does.
 fn push_action<V: ValueKind>(out: &mut String, action: &Action<V>) -> fmt::Result
-    ensures { Adds result (string_bytes out.old) (act-words coded (act_of action.now)) (string_bytes out.new) }
+    ensures { Adds result (string_bytes out.old) (act_words coded (act_of action.now)) (string_bytes out.new) }
 {
     match action {
         Action::Read(location) => push_read(out, *location),
@@ -98,7 +98,7 @@ fn push_action<V: ValueKind>(out: &mut String, action: &Action<V>) -> fmt::Resul
 // The operation at place `i` of the list, counted from 1 in the text.
 fn push_operation<V: ValueKind>(out: &mut String, i: usize, operation: &Operation<V>) -> fmt::Result
     requires { i + 1 < 2 ^ 64 }
-    ensures { Adds result (string_bytes out.old) (operation-line coded i (op_of operation.now)) (string_bytes out.new) }
+    ensures { Adds result (string_bytes out.old) (operation_line coded i (op_of operation.now)) (string_bytes out.new) }
 {
     let number = i + 1;
     let process = operation.process;
@@ -112,7 +112,7 @@ pub(crate) fn push_operations<V: ValueKind>(
     out: &mut String,
     operations: &[Operation<V>],
 ) -> fmt::Result
-    ensures { Adds result (string_bytes out.old) (operations-text coded (map op_of operations.now)) (string_bytes out.new) }
+    ensures { Adds result (string_bytes out.old) (operations_text coded (map op_of operations.now)) (string_bytes out.new) }
 {
     writeln!(out, "operations")?;
     for (i, operation) in operations.iter().enumerate() {

@@ -5,7 +5,7 @@ ghost use Rattle.sheet.specs.Parts.{parts_of};
 ghost use Rattle.sheet.specs.Reading.{read_answer};
 ghost use Rattle.sheet.specs.RoundTrip.{GivesBack};
 ghost use Rattle.report.specs.Lines.{again_line, refusal_line};
-ghost use Rattle.report.specs.Texts.{Adds, Reports, parts-text, answer-text, is_links_lem, report_text, is_accepted};
+ghost use Rattle.report.specs.Texts.{Adds, Reports, parts_text, answer_text, is_links_lem, report_text, is_accepted};
 
 use crate::again::{Again, push_again, write_again};
 use crate::answer::Report;
@@ -19,7 +19,7 @@ use value::{Link, Number, ValueKind};
 
 // What a sheet of this length says.
 fn push_parts<V: ValueKind>(out: &mut String, sheet: &Sheet<V>, long: usize) -> fmt::Result
-    ensures { Adds result (string_bytes out.old) (parts-text coded number long (parts_of sheet.now)) (string_bytes out.new) }
+    ensures { Adds result (string_bytes out.old) (parts_text coded number long (parts_of sheet.now)) (string_bytes out.new) }
 {
     push_size(out, long)?;
     push_header(
@@ -41,7 +41,7 @@ fn push_sheet<V: ValueKind>(
     long: usize,
     again: Again,
 ) -> fmt::Result
-    ensures { Adds result (string_bytes out.old) (parts-text coded number long (parts_of sheet.now) ++ again_line again.long again.same) (string_bytes out.new) }
+    ensures { Adds result (string_bytes out.old) (parts_text coded number long (parts_of sheet.now) ++ again_line again.long again.same) (string_bytes out.new) }
 {
     push_parts(out, sheet, long)?;
     push_again(out, again)
@@ -54,7 +54,7 @@ fn report_sheet<V: ValueKind>(
     bytes: &[u8],
 ) -> Result<Report, AllocError>
     requires { GivesBack coded number (parts_of sheet.now) bytes.now }
-    ensures { IfOk result (λ t. Reports t (answer-text coded number (length bytes.now) (Ok (parts_of sheet.now))) true) }
+    ensures { IfOk result (λ t. Reports t (answer_text coded number (length bytes.now) (Ok (parts_of sheet.now))) true) }
 {
     let again = write_again(heap, sheet, bytes)?;
     let mut text = String::new(heap);
@@ -83,7 +83,7 @@ fn report_refusal(heap: Global, fault: SheetFault) -> Result<Report, AllocError>
 
 // The report on bytes that are read as a sheet of one kind of values.
 fn report_of<V: ValueKind>(heap: Global, bytes: &[u8]) -> Result<Report, AllocError>
-    ensures { IfOk result (λ t. Reports t (answer-text coded number (length bytes.now) (read_answer decoded bytes.now number)) (is_ok (read_answer decoded bytes.now number))) }
+    ensures { IfOk result (λ t. Reports t (answer_text coded number (length bytes.now) (read_answer decoded bytes.now number)) (is_ok (read_answer decoded bytes.now number))) }
 {
     match sheet::read::<V>(heap, bytes) {
         Ok(sheet) => report_sheet(heap, &sheet, bytes),

@@ -22,8 +22,8 @@ use Rattle.phases.specs.declared.turn.Answer.TheVariants.{Values, Yes, No}
 use Rattle.phases.specs.declared.turn.Milestone.{Milestone}
 use Rattle.phases.specs.declared.turn.Turn.{Turn}
 use Rattle.phases.specs.declared.turn.Turn.TheVariants.{On, Ends}
-use Rattle.lines.specs.Accesses.{next-access}
-use Rattle.lines.specs.Advancing.{finding_of_lem, turn-of}
+use Rattle.lines.specs.Accesses.{next_access_lem}
+use Rattle.lines.specs.Advancing.{finding_of_lem, turn_of}
 use Rattle.lines.specs.Recording.{first_phase, recorded, is_attempt, marked_after, collected_after, effect_step}
 
 -- a value is its own code
@@ -190,7 +190,7 @@ pub record Lines : Type 0 where
   pub turn : OperationKind → List (Operand ℕ) → Phase ℕ → Seen ℕ → Option (Turn ℕ)
 
 abbrev pub true_lines : Lines
-true_lines = record { finding = finding_of_lem; turn = turn-of code }
+true_lines = record { finding = finding_of_lem; turn = turn_of code }
 
 module _ (lines : Lines) where
   abbrev pub finds : Machine → Machine → ℕ → Process → Running → Seen ℕ → Option (Finding ℕ) → Machine
@@ -202,19 +202,19 @@ module _ (lines : Lines) where
   accesses m p q r (Some x) = finds m (after_access (with_step m) x.1) p q r (seen_by m x.1) (lines.finding r.phase (seen_by m x.1))
 
   abbrev pub goes : Machine → ℕ → Process → Running → Machine
-  goes m p q r = accesses m p q r (next-access code (record { process = p; tag = q.tag }) r.kind r.operands r.new r.phase)
+  goes m p q r = accesses m p q r (next_access_lem code (record { process = p; tag = q.tag }) r.kind r.operands r.new r.phase)
 
   -- a fresh attempt raises the tag first, and is refused with 14 where the tag is not below the greatest
-  abbrev pub steps-in : Machine → ℕ → Process → Option Running → Machine
-  steps-in m p q None = with_event m (misfit p)
-  steps-in m p q (Some r) =
+  abbrev pub steps_in : Machine → ℕ → Process → Option Running → Machine
+  steps_in m p q None = with_event m (misfit p)
+  steps_in m p q (Some r) =
       cond (is_attempt r.phase)
       (cond (nat_lt q.tag m.greatest_tag) (goes m p (raised q) r) (with_event m (refused p 14)))
       (goes m p q r)
 
   abbrev pub obey : Machine → Command → Machine
   obey m (start p kind given new) = starts m p (m.processes p) kind given new (m.processes p).running
-  obey m (step p) = steps-in m p (m.processes p) (m.processes p).running
+  obey m (step p) = steps_in m p (m.processes p) (m.processes p).running
 
   abbrev pub run : Machine → List Command → Machine
   run m [] = m

@@ -7,7 +7,7 @@ use Rattle.sheet_format.specs.Faults.{fault}
 use Rattle.sheet_format.specs.Parts.{Parts}
 use Rattle.sheet_format.specs.Format.{operations_at, script_at, total}
 use Rattle.sheet_format.specs.Reading.{within, starts}
-use Rattle.sheet_format.specs.Writing.{writable, operations_end_lem, script_end_lem, layout-answer, write-answer}
+use Rattle.sheet_format.specs.Writing.{writable, operations_end_lem, script_end_lem, layout_answer, write_answer}
 use Rattle.sheet_format.proofs.Counts.{true_within, within_true}
 use Rattle.sheet_format.proofs.Steps.{ok_same, pass, passed, go_on, begun}
 use Rattle.sheet_format.proofs.ReadOperations.{ends}
@@ -44,8 +44,8 @@ module _ {V : Type 0} (p : Parts V) where
         end,
       )
 
-  pub laid_out : (t : ℕ) → layout-answer p ≡ Ok t → Laid × (t ≡ total p)
-  unfolding layout-answer
+  pub laid_out : (t : ℕ) → layout_answer p ≡ Ok t → Laid × (t ≡ total p)
+  unfolding layout_answer
   laid_out t e =
       let a = passed (within 1 256 (length p.initial)) _ _ t e in
       let b = passed (within 1 32 p.processes) _ _ t a.1 in
@@ -56,18 +56,18 @@ module _ {V : Type 0} (p : Parts V) where
       let l = laid_by o.value s.value a.0 b.0 c.0 o.first_is s.first_is d.0 in
       (l.0, omega (arith, ok_same s.value t d.1, l.1))
 
-  pub laid : (n room : ℕ) → write-answer p room ≡ Ok n → Laid × (n ≡ total p)
-  unfolding write-answer
+  pub laid : (n room : ℕ) → write_answer p room ≡ Ok n → Laid × (n ≡ total p)
+  unfolding write_answer
   laid n room e =
-      let whole = begun (layout-answer p) _ n e in
+      let whole = begun (layout_answer p) _ n e in
       let last = passed (leb whole.value room) _ (Ok whole.value) n whole.rest_is in
       let l = laid_out whole.value whole.first_is in
       (l.0, omega (arith, ok_same whole.value n last.1, l.1))
 
-  pub accepted : (room : ℕ) → Laid → total p ≤ room → write-answer p room ≡ Ok (total p)
-  unfolding write-answer layout-answer
+  pub accepted : (room : ℕ) → Laid → total p ≤ room → write_answer p room ≡ Ok (total p)
+  unfolding write_answer layout_answer
   accepted room l h =
-      go_on (layout-answer p) _ (total p) (Ok (total p))
+      go_on (layout_answer p) _ (total p) (Ok (total p))
       (pass (within 1 256 (length p.initial)) _ _ _ (true_within 1 256 _ l.locations.0 l.locations.1)
       (pass (within 1 32 p.processes) _ _ _ (true_within 1 32 _ l.processes.0 l.processes.1)
       (pass (leb (length p.script) 65535) _ _ _ (le-leb _ _ l.items)

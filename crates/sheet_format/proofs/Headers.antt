@@ -3,7 +3,7 @@ use Rattle.std.proofs.Common.{◌≡◌, ℕ, ◌+◌, ◌*◌, ◌≤◌, ◌&&
 use Rattle.std.proofs.lemmas.Bool.{and_parts, leb-true, eqb-true}
 use Rattle.sheet_format.specs.declared.header.Header.{Header}
 use Rattle.sheet_format.specs.Bytes.{field}
-use Rattle.sheet_format.specs.Reading.{within, header-answer}
+use Rattle.sheet_format.specs.Reading.{within, header_answer}
 use Rattle.sheet_format.proofs.Counts.{within_true}
 use Rattle.sheet_format.proofs.Steps.{ok_same, passed}
 
@@ -25,8 +25,8 @@ module _ (bytes : List ℕ) where
     pub script_place : field bytes 16 4 + field bytes 6 2 ≡ length bytes
     pub in_order : field bytes 12 4 ≤ field bytes 16 4
 
-  pub header_back : (number : ℕ) (h : Header) → header-answer bytes number ≡ Ok h → Headed number × (header_of ≡ h)
-  unfolding header-answer
+  pub header_back : (number : ℕ) (h : Header) → header_answer bytes number ≡ Ok h → Headed number × (header_of ≡ h)
+  unfolding header_answer
   header_back number h e =
       let a = passed (leb 24 (length bytes)) _ _ h e in
       let b = passed (eqb (field bytes 20 4) (length bytes)) _ _ h a.1 in
@@ -61,7 +61,7 @@ module _ (bytes : List ℕ) where
     pub before : h.operations ≤ h.script
     pub script_end_lem : h.script + h.items ≤ length bytes
 
-  pub placed : (number : ℕ) (h : Header) → header-answer bytes number ≡ Ok h → Placed h
+  pub placed : (number : ℕ) (h : Header) → header_answer bytes number ≡ Ok h → Placed h
   placed number h e =
       let d = header_back number h e in
       subst Placed d.1 (record {

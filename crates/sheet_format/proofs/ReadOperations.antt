@@ -9,8 +9,8 @@ use Rattle.sheet_format.specs.Bytes.{field, bytes_of}
 use Rattle.sheet_format.specs.Faults.{fault}
 use Rattle.operation.specs.Kinds.{kind_number, kind_of, counted, takes_new_lem, takes_expected_lem}
 use Rattle.sheet_format.specs.Parts.{Act, read, ll, sc, snapshot, kcss, Op, Fitting, AllFitting}
-use Rattle.sheet_format.specs.Format.{act_kind, act_count, size_by, sizes, new-code, operands-bytes, op_bytes}
-use Rattle.sheet_format.specs.Reading.{unused, head-fits, head-by, head-answer, value-answer, operands-answer, action-by, action-answer, operation-answer, operations-answer}
+use Rattle.sheet_format.specs.Format.{act_kind, act_count, size_by, sizes, new_code_lem, operands_bytes, op_bytes}
+use Rattle.sheet_format.specs.Reading.{unused, head_fits_lem, head_by, head_answer, value_answer, operands_answer, action_by, action_answer, operation_answer, operations_answer}
 use Rattle.sheet_format.specs.Writing.{operations_end_lem}
 use Rattle.sheet_format.proofs.Fields.{bytes_length, byte_at, byte_past, drop_past, peel, field_read}
 use Rattle.sheet_format.proofs.Counts.{counted_range}
@@ -37,14 +37,14 @@ ends at (suc left) end (o ∷ ops) h =
     omega arith
 
 module _ (bytes : List ℕ) {V : Type 0} (code : V → ℕ) where
-  new_unused : (a : Act V) → (takes_new_lem (act_kind a) || eqb (new-code code a) 0) ≡ true
+  new_unused : (a : Act V) → (takes_new_lem (act_kind a) || eqb (new_code_lem code a) 0) ≡ true
   new_unused (read a) = refl
   new_unused (ll a) = refl
   new_unused (sc a v) = refl
   new_unused (snapshot ls) = refl
   new_unused (kcss v os) = refl
 
-  expected_unused : (at : ℕ) (a : Act V) (rest : List ℕ) → Fitting a → drop at bytes ≡ operands-bytes code a ++ rest → (takes_expected_lem (act_kind a) || unused bytes at (act_count a)) ≡ true
+  expected_unused : (at : ℕ) (a : Act V) (rest : List ℕ) → Fitting a → drop at bytes ≡ operands_bytes code a ++ rest → (takes_expected_lem (act_kind a) || unused bytes at (act_count a)) ≡ true
   expected_unused at (read a) rest h e = (location_read bytes code at a rest h e).0
   expected_unused at (ll a) rest h e = (location_read bytes code at a rest h e).0
   expected_unused at (sc a v) rest h e = (location_read bytes code at a rest h e).0
@@ -57,11 +57,11 @@ module _ (bytes : List ℕ) {V : Type 0} (code : V → ℕ) where
     process_byte : get_or bytes (at + 1) 0 ≡ o.process
     count_byte : get_or bytes (at + 2) 0 ≡ act_count o.act
     zero_byte : get_or bytes (at + 3) 0 ≡ 0
-    new : field bytes (at + 4) 8 ≡ new-code code o.act
-    operands : drop (at + 12) bytes ≡ operands-bytes code o.act ++ rest
+    new : field bytes (at + 4) 8 ≡ new_code_lem code o.act
+    operands : drop (at + 12) bytes ≡ operands_bytes code o.act ++ rest
 
   module _ (small : (v : V) → code v < 2 ^ 64) where
-    new_small : (a : Act V) → new-code code a < 2 ^ 64
+    new_small : (a : Act V) → new_code_lem code a < 2 ^ 64
     new_small (read a) = omega arith
     new_small (ll a) = omega arith
     new_small (sc a v) = small v
@@ -71,10 +71,10 @@ module _ (bytes : List ℕ) {V : Type 0} (code : V → ℕ) where
     parted : (at : ℕ) (o : Op V) (rest : List ℕ) → drop at bytes ≡ op_bytes code o ++ rest → Parted at o rest
     unfolding op_bytes
     parted at o rest e =
-        let n : ℕ = new-code code o.act in
-        let tail : List ℕ = (bytes_of 8 n ++ operands-bytes code o.act) ++ rest in
+        let n : ℕ = new_code_lem code o.act in
+        let tail : List ℕ = (bytes_of 8 n ++ operands_bytes code o.act) ++ rest in
         let l : List ℕ = kind_number (act_kind o.act) ∷ o.process ∷ act_count o.act ∷ 0 ∷ tail in
-        let p = peel bytes (at + 4) 8 (bytes_of 8 n) (operands-bytes code o.act) rest (bytes_length 8 n) (drop_past bytes at 4 l e) in
+        let p = peel bytes (at + 4) 8 (bytes_of 8 n) (operands_bytes code o.act) rest (bytes_length 8 n) (drop_past bytes at 4 l e) in
         let place : at + 4 + 8 ≡ at + 12 = omega arith in
         record {
           kind_byte = byte_at bytes at _ _ e;
@@ -86,46 +86,46 @@ module _ (bytes : List ℕ) {V : Type 0} (code : V → ℕ) where
         }
 
   head_read : (at end : ℕ) (o : Op V) (rest : List ℕ) → Fitting o.act → counted (act_kind o.act) (act_count o.act) ≡ true → at + size_by (act_count o.act) ≤ end → Parted at o rest
-      → head-answer bytes at end ≡ Ok (record { kind = act_kind o.act; process = o.process; count = act_count o.act })
-  unfolding head-answer
+      → head_answer bytes at end ≡ Ok (record { kind = act_kind o.act; process = o.process; count = act_count o.act })
+  unfolding head_answer
   head_read at end o rest h c room d =
       let k : OperationKind = act_kind o.act in
       let n : ℕ = act_count o.act in
-      let fits : head-fits bytes at end k ≡ true =
+      let fits : head_fits_lem bytes at end k ≡ true =
       and_from _ _ (ap (counted k) d.count_byte ∙ c)
       (and_from _ _ (ap (λ b. eqb b 0) d.zero_byte)
       (and_from _ _ (ap (λ x. leb (at + size_by x) end) d.count_byte ∙ le-leb (at + size_by n) end room)
       (and_from _ _ (ap (λ x. takes_new_lem k || eqb x 0) d.new ∙ new_unused o.act)
       (ap (λ x. takes_expected_lem k || unused bytes (at + 12) x) d.count_byte ∙ expected_unused (at + 12) o.act rest h d.operands)))) in
-      pass (leb (at + 12) end) (fault WrongOperation at) (head-by bytes at end (kind_of (get_or bytes at 0))) _ (le-leb (at + 12) end (omega arith))
-      (ap (head-by bytes at end) (ap kind_of d.kind_byte ∙ kind_read k)
-      ∙ pass (head-fits bytes at end k) (fault WrongOperation at) (Ok (record { kind = k; process = get_or bytes (at + 1) 0; count = get_or bytes (at + 2) 0 })) _ fits
+      pass (leb (at + 12) end) (fault WrongOperation at) (head_by bytes at end (kind_of (get_or bytes at 0))) _ (le-leb (at + 12) end (omega arith))
+      (ap (head_by bytes at end) (ap kind_of d.kind_byte ∙ kind_read k)
+      ∙ pass (head_fits_lem bytes at end k) (fault WrongOperation at) (Ok (record { kind = k; process = get_or bytes (at + 1) 0; count = get_or bytes (at + 2) 0 })) _ fits
       (λ i. Ok (record { kind = k; process = d.process_byte i; count = d.count_byte i })))
 
   module _ (decode : ℕ → Option V) (back : (v : V) → decode (code v) ≡ Some v) (small : (v : V) → code v < 2 ^ 64) where
-    action_read : (at : ℕ) (a : Act V) (rest : List ℕ) → Fitting a → field bytes (at + 4) 8 ≡ new-code code a → drop (at + 12) bytes ≡ operands-bytes code a ++ rest
-        → action-by decode bytes at (act_kind a) (act_count a) ≡ Ok a
+    action_read : (at : ℕ) (a : Act V) (rest : List ℕ) → Fitting a → field bytes (at + 4) 8 ≡ new_code_lem code a → drop (at + 12) bytes ≡ operands_bytes code a ++ rest
+        → action_by decode bytes at (act_kind a) (act_count a) ≡ Ok a
     action_read at (read a) rest h n e = ap (λ x. Ok (read x)) (location_read bytes code (at + 12) a rest h e).1
     action_read at (ll a) rest h n e = ap (λ x. Ok (ll x)) (location_read bytes code (at + 12) a rest h e).1
     action_read at (sc a v) rest h n e =
-        go_on (value-answer decode bytes (at + 4)) (λ x. Ok (sc (field bytes (at + 12) 2) x)) v (Ok (sc a v)) (value_by bytes code decode back small (at + 4) v n)
+        go_on (value_answer decode bytes (at + 4)) (λ x. Ok (sc (field bytes (at + 12) 2) x)) v (Ok (sc a v)) (value_by bytes code decode back small (at + 4) v n)
         (ap (λ x. Ok (sc x v)) (location_read bytes code (at + 12) a rest h e).1)
     action_read at (snapshot ls) rest h n e = ap (λ x. Ok (snapshot x)) (locations_read bytes code (at + 12) ls rest h e).1
     action_read at (kcss v os) rest h n e =
-        go_on (value-answer decode bytes (at + 4)) _ v (Ok (kcss v os)) (value_by bytes code decode back small (at + 4) v n)
-        (go_on (operands-answer decode bytes (at + 12) (length os)) (λ x. Ok (kcss v x)) os (Ok (kcss v os)) (operands_read bytes code decode back small (at + 12) os rest h e) refl)
+        go_on (value_answer decode bytes (at + 4)) _ v (Ok (kcss v os)) (value_by bytes code decode back small (at + 4) v n)
+        (go_on (operands_answer decode bytes (at + 12) (length os)) (λ x. Ok (kcss v x)) os (Ok (kcss v os)) (operands_read bytes code decode back small (at + 12) os rest h e) refl)
 
     operation_read : (at end : ℕ) (o : Op V) (rest : List ℕ) → Fitting o.act → counted (act_kind o.act) (act_count o.act) ≡ true → at + size_by (act_count o.act) ≤ end → Parted at o rest
-        → operation-answer decode bytes end at ≡ Ok o
-    unfolding operation-answer
+        → operation_answer decode bytes end at ≡ Ok o
+    unfolding operation_answer
     operation_read at end o rest h c room d =
-        go_on (head-answer bytes at end) (action-answer decode bytes at) _ (Ok o) (head_read at end o rest h c room d)
-        (go_on (action-by decode bytes at (act_kind o.act) (act_count o.act)) (λ a. Ok (record { process = o.process; act = a })) o.act (Ok o)
+        go_on (head_answer bytes at end) (action_answer decode bytes at) _ (Ok o) (head_read at end o rest h c room d)
+        (go_on (action_by decode bytes at (act_kind o.act) (act_count o.act)) (λ a. Ok (record { process = o.process; act = a })) o.act (Ok o)
         (action_read at o.act rest h d.new d.operands) refl)
 
     pub operations_read : (at left end : ℕ) (ops : List (Op V)) (rest : List ℕ) → AllFitting ops → operations_end_lem at left ops ≡ Ok end → drop at bytes ≡ flat_map (op_bytes code) ops ++ rest
-        → operations-answer decode bytes end left at ≡ Ok ops
-    unfolding operations-answer operations_end_lem
+        → operations_answer decode bytes end left at ≡ Ok ops
+    unfolding operations_answer operations_end_lem
     operations_read at zero end [] rest h l e = pass (leb end at) (fault WrongOperation at) (Ok []) (Ok []) (le-leb end at (omega (arith, ok_same at end l))) refl
     operations_read at (suc left) end [] rest h l e = cond-true (leb end at) (Ok []) _ (le-leb end at (omega (arith, ok_same at end l)))
     operations_read at zero end (o ∷ ops) rest h l e = never_ok (fault WrongOperation at) end l
@@ -137,6 +137,6 @@ module _ (bytes : List ℕ) {V : Type 0} (code : V → ℕ) where
         let q = peel bytes at (size_by n) (op_bytes code o) more rest (op_length code o) e in
         let d = parted small at o (more ++ rest) q.0 in
         cond-false (leb end at) (Ok []) _ (lt-leb end at (omega arith))
-        ∙ gather (operation-answer decode bytes end at) (operations-answer decode bytes end left (at + size_by (get_or bytes (at + 2) 0))) o ops
+        ∙ gather (operation_answer decode bytes end at) (operations_answer decode bytes end left (at + size_by (get_or bytes (at + 2) 0))) o ops
         (operation_read at end o (more ++ rest) h.0 p.0 (omega arith) d)
-        (ap (λ x. operations-answer decode bytes end left (at + size_by x)) d.count_byte ∙ operations_read (at + size_by n) left end ops rest h.1 p.1 q.1)
+        (ap (λ x. operations_answer decode bytes end left (at + size_by x)) d.count_byte ∙ operations_read (at + size_by n) left end ops rest h.1 p.1 q.1)

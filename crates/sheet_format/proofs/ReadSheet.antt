@@ -5,9 +5,9 @@ use Rattle.std.proofs.lemmas.List.{append-nil, take_at}
 use Rattle.std.proofs.lemmas.Bool.{and_from, le-leb, eq-eqb}
 use Rattle.sheet_format.specs.Bytes.{field, bytes_of, overwritten}
 use Rattle.sheet_format.specs.Parts.{Parts, AllFitting}
-use Rattle.sheet_format.specs.Format.{sizes, operations_at, script_at, total, item_byte_lem, op_bytes, value-bytes, header-bytes, sheet-bytes}
-use Rattle.sheet_format.specs.Reading.{starts, header-answer, values-answer, operations-answer, script-answer, body-answer, read_answer}
-use Rattle.sheet_format.specs.Writing.{write-answer, write-after}
+use Rattle.sheet_format.specs.Format.{sizes, operations_at, script_at, total, item_byte_lem, op_bytes, value_bytes, header_bytes, sheet_bytes}
+use Rattle.sheet_format.specs.Reading.{starts, header_answer, values_answer, operations_answer, script_answer, body_answer, read_answer}
+use Rattle.sheet_format.specs.Writing.{write_answer, write_after}
 use Rattle.sheet_format.proofs.Fields.{bytes_length, next, peel, field_read}
 use Rattle.sheet_format.proofs.Steps.{pass, go_on}
 use Rattle.sheet_format.proofs.Sizes.{joined_length, ops_length, sheet_length}
@@ -30,8 +30,8 @@ module _ {V : Type 0} (code : V → ℕ) (number : ℕ) (p : Parts V) (bytes bod
     length_field : field bytes 20 4 ≡ total p
     rest : drop 24 bytes ≡ body
 
-  headed : length p.initial < 65536 → p.processes < 65536 → length p.script < 65536 → total p < 2 ^ 32 → bytes ≡ header-bytes code number p ++ body → Headed
-  unfolding header-bytes
+  headed : length p.initial < 65536 → p.processes < 65536 → length p.script < 65536 → total p < 2 ^ 32 → bytes ≡ header_bytes code number p ++ body → Headed
+  unfolding header_bytes
   headed hl hp hn ht e =
       let l : List ℕ = bytes_of 2 (length p.initial) in
       let q : List ℕ = bytes_of 2 p.processes in
@@ -60,8 +60,8 @@ module _ {V : Type 0} (code : V → ℕ) (number : ℕ) (p : Parts V) (bytes bod
       }
 
   header_read : Laid p → length bytes ≡ total p → Headed
-      → header-answer bytes number ≡ Ok (record { locations = length p.initial; processes = p.processes; items = length p.script; operations = operations_at p; script = script_at p })
-  unfolding header-answer
+      → header_answer bytes number ≡ Ok (record { locations = length p.initial; processes = p.processes; items = length p.script; operations = operations_at p; script = script_at p })
+  unfolding header_answer
   header_read d n h =
       pass (leb 24 (length bytes)) _ _ _ (le-leb _ _ (omega arith))
       (pass (eqb (field bytes 20 4) (length bytes)) _ _ _ (eq-eqb _ _ (h.length_field ∙ sym n))
@@ -75,30 +75,30 @@ module _ {V : Type 0} (code : V → ℕ) (number : ℕ) (p : Parts V) (bytes bod
       (λ i. Ok (record { locations = h.locations i; processes = h.processes i; items = h.items i; operations = h.operations_place i; script = h.script_place i }))))))))))
 
 module _ {V : Type 0} (code : V → ℕ) (decode : ℕ → Option V) (number : ℕ) (back : (v : V) → decode (code v) ≡ Some v) (small : (v : V) → code v < 2 ^ 64) where
-  sheet_read : (p : Parts V) (bytes : List ℕ) → AllFitting p.operations → Laid p → bytes ≡ sheet-bytes code number p → read_answer decode bytes number ≡ Ok p
-  unfolding sheet-bytes read_answer body-answer
+  sheet_read : (p : Parts V) (bytes : List ℕ) → AllFitting p.operations → Laid p → bytes ≡ sheet_bytes code number p → read_answer decode bytes number ≡ Ok p
+  unfolding sheet_bytes read_answer body_answer
   sheet_read p bytes f d e =
-      let vs : List ℕ = flat_map (value-bytes code) p.initial in
+      let vs : List ℕ = flat_map (value_bytes code) p.initial in
       let os : List ℕ = flat_map (op_bytes code) p.operations in
       let is : List ℕ = map item_byte_lem p.script in
       let size : length bytes ≡ total p = ap length e ∙ sheet_length code number p in
       let few = ends (operations_at p) 4096 (script_at p) p.operations d.operations in
       let h = headed code number p bytes (vs ++ (os ++ is)) (omega (arith, d.locations)) (omega (arith, d.processes)) (omega (arith, d.items)) (omega (arith, d.locations, d.items)) e in
-      let operations-bytes : drop (operations_at p) bytes ≡ os ++ is = next bytes 24 (8 * length p.initial) vs (os ++ is) (joined_length (value-bytes code) 8 (λ v. bytes_length 8 (code v)) p.initial) h.rest in
+      let operations-bytes : drop (operations_at p) bytes ≡ os ++ is = next bytes 24 (8 * length p.initial) vs (os ++ is) (joined_length (value_bytes code) 8 (λ v. bytes_length 8 (code v)) p.initial) h.rest in
       let script-bytes : drop (script_at p) bytes ≡ is ++ [] = next bytes (operations_at p) (sizes p.operations) os is (ops_length code p.operations) operations-bytes ∙ sym (append-nil is) in
-      go_on (header-answer bytes number) (body-answer decode bytes) _ (Ok p) (header_read code number p bytes (vs ++ (os ++ is)) d size h)
-      (go_on (values-answer decode bytes 24 (length p.initial)) _ p.initial (Ok p) (values_read bytes code decode back small 24 p.initial (os ++ is) h.rest)
-      (go_on (operations-answer decode bytes (script_at p) 4096 (operations_at p)) _ p.operations (Ok p)
+      go_on (header_answer bytes number) (body_answer decode bytes) _ (Ok p) (header_read code number p bytes (vs ++ (os ++ is)) d size h)
+      (go_on (values_answer decode bytes 24 (length p.initial)) _ p.initial (Ok p) (values_read bytes code decode back small 24 p.initial (os ++ is) h.rest)
+      (go_on (operations_answer decode bytes (script_at p) 4096 (operations_at p)) _ p.operations (Ok p)
       (operations_read bytes code decode back small (operations_at p) 4096 (script_at p) p.operations is f d.operations operations-bytes)
-      (go_on (script-answer bytes (script_at p) (length p.script)) _ p.script (Ok p)
+      (go_on (script_answer bytes (script_at p) (length p.script)) _ p.script (Ok p)
       (script_read bytes (script_at p) (total p) p.script [] d.script script-bytes)
       (pass (eqb (starts p.script) (length p.operations)) _ _ _ (eq-eqb _ _ d.begins) refl))))
 
-  pub write_then_read : (p : Parts V) (out : List ℕ) (n : ℕ) → AllFitting p.operations → write-answer p (length out) ≡ Ok n
-      → read_answer decode (take n (write-after p code number out)) number ≡ Ok p
+  pub write_then_read : (p : Parts V) (out : List ℕ) (n : ℕ) → AllFitting p.operations → write_answer p (length out) ≡ Ok n
+      → read_answer decode (take n (write_after p code number out)) number ≡ Ok p
   write_then_read p out n f e =
       let l = laid p n (length out) e in
-      let bs : List ℕ = sheet-bytes code number p in
-      let same : take n (cond (is_ok (write-answer p (length out))) (overwritten bs out) out) ≡ bs =
+      let bs : List ℕ = sheet_bytes code number p in
+      let same : take n (cond (is_ok (write_answer p (length out))) (overwritten bs out) out) ≡ bs =
       ap (λ r. take n (cond (is_ok r) (overwritten bs out) out)) e ∙ take_at bs (drop (length bs) out) n (sheet_length code number p ∙ sym l.1) in
       sheet_read p _ f l.0 same

@@ -11,8 +11,8 @@ use Rattle.sheet_format.specs.declared.parts.ScriptItem.TheVariants.{Start, Step
 use Rattle.sheet_format.specs.Bytes.{field, bytes_of, AllBelow}
 use Rattle.sheet_format.specs.declared.fault.SheetFault.{SheetFault}
 use Rattle.sheet_format.specs.Faults.{fault, followed}
-use Rattle.sheet_format.specs.Format.{operand_bytes, item_byte_lem, location-bytes, expected-bytes, value-bytes}
-use Rattle.sheet_format.specs.Reading.{item_of, unused, locations-from, script-answer, value-answer, values-answer, operand-answer, operands-answer}
+use Rattle.sheet_format.specs.Format.{operand_bytes, item_byte_lem, location_bytes, expected_bytes, value_bytes}
+use Rattle.sheet_format.specs.Reading.{item_of, unused, locations_from, script_answer, value_answer, values_answer, operand_answer, operands_answer}
 use Rattle.sheet_format.specs.Writing.{writable, script_end_lem}
 use Rattle.sheet_format.proofs.Fields.{field_back}
 use Rattle.sheet_format.proofs.Steps.{ok_same, pass, some_ok, split, begun}
@@ -42,12 +42,12 @@ module _ (bytes : List ℕ) where
     pub stands : drop at bytes ≡ map item_byte_lem items ++ drop (at + n) bytes
     pub laid : script_end_lem at items ≡ Ok (at + n)
 
-  pub script_back : (at n : ℕ) (items : List ScriptItem) → at + n ≤ length bytes → script-answer bytes at n ≡ Ok items → Scripted at n items
-  unfolding script-answer script_end_lem
+  pub script_back : (at n : ℕ) (items : List ScriptItem) → at + n ≤ length bytes → script_answer bytes at n ≡ Ok items → Scripted at n items
+  unfolding script_answer script_end_lem
   script_back at zero items h e =
       subst (Scripted at 0) (ok_same [] items e) (record { count = refl; stands = nothing at (at + 0) (add-zero at); laid = ap Ok (sym (add-zero at)) })
   script_back at (suc n) items h e =
-      let s = split (ok_or (item_of (get_or bytes at 0)) (fault WrongScript at)) (script-answer bytes (at + 1) n) items e in
+      let s = split (ok_or (item_of (get_or bytes at 0)) (fault WrongScript at)) (script_answer bytes (at + 1) n) items e in
       let i = item_back (get_or bytes at 0) s.first (some_ok (item_of (get_or bytes at 0)) (fault WrongScript at) s.first s.first_is) in
       let ih = script_back (at + 1) n s.others (omega arith) s.others_are in
       let place : at + 1 + n ≡ at + suc n = omega arith in
@@ -87,39 +87,39 @@ module _ (bytes : List ℕ) where
 
     module _ {V : Type 0} (code : V → ℕ) where
       -- an operand with no expected code
-      location_by : (at : ℕ) → at + 10 ≤ length bytes → eqb (field bytes (at + 2) 8) 0 ≡ true → drop at bytes ≡ location-bytes code (field bytes at 2) ++ drop (at + 10) bytes
+      location_by : (at : ℕ) → at + 10 ≤ length bytes → eqb (field bytes (at + 2) 8) 0 ≡ true → drop at bytes ≡ location_bytes code (field bytes at 2) ++ drop (at + 10) bytes
       location_by at h e = operand_back at h ∙ ap (λ c. operand_bytes (field bytes at 2) c ++ drop (at + 10) bytes) (eqb-true (field bytes (at + 2) 8) 0 e)
 
-      pub location_back : (at : ℕ) → at + 10 ≤ length bytes → unused bytes at 1 ≡ true → drop at bytes ≡ location-bytes code (field bytes at 2) ++ drop (at + 10) bytes
+      pub location_back : (at : ℕ) → at + 10 ≤ length bytes → unused bytes at 1 ≡ true → drop at bytes ≡ location_bytes code (field bytes at 2) ++ drop (at + 10) bytes
       unfolding unused
       location_back at h e = location_by at h (and_parts (eqb (field bytes (at + 2) 8) 0) true e).0
 
       pub locations_back : (at n : ℕ) → at + 10 * n ≤ length bytes → unused bytes at n ≡ true
-          → (length (locations-from bytes at n) ≡ n) × (drop at bytes ≡ flat_map (location-bytes code) (locations-from bytes at n) ++ drop (at + 10 * n) bytes)
-      unfolding unused locations-from
+          → (length (locations_from bytes at n) ≡ n) × (drop at bytes ≡ flat_map (location_bytes code) (locations_from bytes at n) ++ drop (at + 10 * n) bytes)
+      unfolding unused locations_from
       locations_back at zero h e = (refl, nothing at (at + 10 * 0) (omega arith))
       locations_back at (suc n) h e =
           let u = and_parts (eqb (field bytes (at + 2) 8) 0) (unused bytes (at + 10) n) e in
           let ih = locations_back (at + 10) n (omega arith) u.1 in
-          let more = flat_map (location-bytes code) (locations-from bytes (at + 10) n) in
+          let more = flat_map (location_bytes code) (locations_from bytes (at + 10) n) in
           let place : at + 10 + 10 * n ≡ at + 10 * suc n = omega arith in
-          (ap suc ih.0, join at (at + 10) (at + 10 * suc n) (location-bytes code (field bytes at 2)) more (location_by at (omega arith) u.0) (up_to (at + 10) (at + 10 + 10 * n) (at + 10 * suc n) more place ih.1))
+          (ap suc ih.0, join at (at + 10) (at + 10 * suc n) (location_bytes code (field bytes at 2)) more (location_by at (omega arith) u.0) (up_to (at + 10) (at + 10 + 10 * n) (at + 10 * suc n) more place ih.1))
 
       module _ (decode : ℕ → Option V) (kept : (c : ℕ) (v : V) → decode c ≡ Some v → code v ≡ c) where
-        pub value_code : (at : ℕ) (v : V) → value-answer decode bytes at ≡ Ok v → field bytes at 8 ≡ code v
+        pub value_code : (at : ℕ) (v : V) → value_answer decode bytes at ≡ Ok v → field bytes at 8 ≡ code v
         value_code at v e = sym (kept (field bytes at 8) v (some_ok (decode (field bytes at 8)) (fault WrongCode at) v e))
 
-        pub values_back : (at n : ℕ) (vs : List V) → at + 8 * n ≤ length bytes → values-answer decode bytes at n ≡ Ok vs → (length vs ≡ n) × (drop at bytes ≡ flat_map (value-bytes code) vs ++ drop (at + 8 * n) bytes)
-        unfolding values-answer
-        values_back = items_back 8 (value-bytes code) (value-answer decode bytes) (values-answer decode bytes) (λ at. refl) (λ at n. refl)
+        pub values_back : (at n : ℕ) (vs : List V) → at + 8 * n ≤ length bytes → values_answer decode bytes at n ≡ Ok vs → (length vs ≡ n) × (drop at bytes ≡ flat_map (value_bytes code) vs ++ drop (at + 8 * n) bytes)
+        unfolding values_answer
+        values_back = items_back 8 (value_bytes code) (value_answer decode bytes) (values_answer decode bytes) (λ at. refl) (λ at n. refl)
             (λ at v h e. field_back bytes at 8 all h ∙ ap (λ c. bytes_of 8 c ++ drop (at + 8) bytes) (value_code at v e))
 
-        expected_back : (at : ℕ) (o : Operand V) → at + 10 ≤ length bytes → operand-answer decode bytes at ≡ Ok o → drop at bytes ≡ expected-bytes code o ++ drop (at + 10) bytes
+        expected_back : (at : ℕ) (o : Operand V) → at + 10 ≤ length bytes → operand_answer decode bytes at ≡ Ok o → drop at bytes ≡ expected_bytes code o ++ drop (at + 10) bytes
         expected_back at o h e =
-            let s = begun (value-answer decode bytes (at + 2)) (λ v. Ok (record { location = field bytes at 2; expected = v })) o e in
+            let s = begun (value_answer decode bytes (at + 2)) (λ v. Ok (record { location = field bytes at 2; expected = v })) o e in
             let is : record { location = field bytes at 2; expected = s.value } ≡ o = ok_same _ o s.rest_is in
-            operand_back at h ∙ ap (λ c. operand_bytes (field bytes at 2) c ++ drop (at + 10) bytes) (value_code (at + 2) s.value s.first_is) ∙ ap (λ x. expected-bytes code x ++ drop (at + 10) bytes) is
+            operand_back at h ∙ ap (λ c. operand_bytes (field bytes at 2) c ++ drop (at + 10) bytes) (value_code (at + 2) s.value s.first_is) ∙ ap (λ x. expected_bytes code x ++ drop (at + 10) bytes) is
 
-        pub operands_back : (at n : ℕ) (os : List (Operand V)) → at + 10 * n ≤ length bytes → operands-answer decode bytes at n ≡ Ok os → (length os ≡ n) × (drop at bytes ≡ flat_map (expected-bytes code) os ++ drop (at + 10 * n) bytes)
-        unfolding operands-answer
-        operands_back = items_back 10 (expected-bytes code) (operand-answer decode bytes) (operands-answer decode bytes) (λ at. refl) (λ at n. refl) expected_back
+        pub operands_back : (at n : ℕ) (os : List (Operand V)) → at + 10 * n ≤ length bytes → operands_answer decode bytes at n ≡ Ok os → (length os ≡ n) × (drop at bytes ≡ flat_map (expected_bytes code) os ++ drop (at + 10 * n) bytes)
+        unfolding operands_answer
+        operands_back = items_back 10 (expected_bytes code) (operand_answer decode bytes) (operands_answer decode bytes) (λ at. refl) (λ at n. refl) expected_back

@@ -5,8 +5,8 @@ use Rattle.std.proofs.lemmas.List.{append-nil, drop_more, drop_all}
 use Rattle.std.proofs.lemmas.Bool.{eqb-true}
 use Rattle.sheet_format.specs.Bytes.{field, bytes_of, AllBelow}
 use Rattle.sheet_format.specs.Parts.{Parts}
-use Rattle.sheet_format.specs.Format.{operations_at, script_at, total, item_byte_lem, op_bytes, value-bytes, header-bytes, sheet-bytes}
-use Rattle.sheet_format.specs.Reading.{starts, header-answer, values-answer, operations-answer, script-answer, joined-answer, body-answer, read_answer}
+use Rattle.sheet_format.specs.Format.{operations_at, script_at, total, item_byte_lem, op_bytes, value_bytes, header_bytes, sheet_bytes}
+use Rattle.sheet_format.specs.Reading.{starts, header_answer, values_answer, operations_answer, script_answer, joined_answer, body_answer, read_answer}
 use Rattle.sheet_format.specs.Writing.{operations_end_lem, script_end_lem}
 use Rattle.sheet_format.specs.RoundTrip.{GivesBack}
 use Rattle.sheet_format.proofs.Fields.{field_back, field_fits}
@@ -32,26 +32,26 @@ module _ (bytes : List ℕ) where
 
   module _ {V : Type 0} (code : V → ℕ) (number : ℕ) where
     front_is : (p : Parts V) → Headed bytes number → length p.initial ≡ field bytes 2 2 → p.processes ≡ field bytes 4 2 → length p.script ≡ field bytes 6 2 → operations_at p ≡ field bytes 12 4 → script_at p ≡ field bytes 16 4 → total p ≡ field bytes 20 4
-        → header-bytes code number p ≡ front
-    unfolding header-bytes front
+        → header_bytes code number p ≡ front
+    unfolding header_bytes front
     front_is p d l q n o s t i = sym d.version i ∷ sym d.kind i ∷ (bytes_of 2 (l i) ++ (bytes_of 2 (q i) ++ (bytes_of 2 (n i) ++ (bytes_of 4 (sym d.values_place i) ++ (bytes_of 4 (o i) ++ (bytes_of 4 (s i) ++ bytes_of 4 (t i)))))))
 
     -- what a sheet that was read says of its bytes
     record Parted (p : Parts V) : Type 0 where
       locations : length p.initial ≡ field bytes 2 2
-      values : drop 24 bytes ≡ flat_map (value-bytes code) p.initial ++ drop (24 + 8 * field bytes 2 2) bytes
+      values : drop 24 bytes ≡ flat_map (value_bytes code) p.initial ++ drop (24 + 8 * field bytes 2 2) bytes
       processes : p.processes ≡ field bytes 4 2
       operations : Listed bytes code (field bytes 16 4) 4096 (field bytes 12 4) p.operations
       script : Scripted bytes (field bytes 16 4) (field bytes 6 2) p.script
       begins : starts p.script ≡ length p.operations
 
     module _ (all : AllBelow 256 bytes) where
-      body_back : (decode : ℕ → Option V) (kept : (c : ℕ) (v : V) → decode c ≡ Some v → code v ≡ c) (p : Parts V) → Headed bytes number → body-answer decode bytes (header_of bytes) ≡ Ok p → Parted p
-      unfolding body-answer
+      body_back : (decode : ℕ → Option V) (kept : (c : ℕ) (v : V) → decode c ≡ Some v → code v ≡ c) (p : Parts V) → Headed bytes number → body_answer decode bytes (header_of bytes) ≡ Ok p → Parted p
+      unfolding body_answer
       body_back decode kept p d e =
-          let vs = begun (values-answer decode bytes 24 (field bytes 2 2)) _ p e in
-          let os = begun (operations-answer decode bytes (field bytes 16 4) 4096 (field bytes 12 4)) _ p vs.rest_is in
-          let is = begun (script-answer bytes (field bytes 16 4) (field bytes 6 2)) (joined-answer decode bytes (header_of bytes) vs.value os.value) p os.rest_is in
+          let vs = begun (values_answer decode bytes 24 (field bytes 2 2)) _ p e in
+          let os = begun (operations_answer decode bytes (field bytes 16 4) 4096 (field bytes 12 4)) _ p vs.rest_is in
+          let is = begun (script_answer bytes (field bytes 16 4) (field bytes 6 2)) (joined_answer decode bytes (header_of bytes) vs.value os.value) p os.rest_is in
           let m = passed (eqb (starts is.value) (length os.value)) _ _ p is.rest_is in
           let v = values_back bytes all code decode kept 24 (field bytes 2 2) vs.value (omega (arith, d.operations_place, d.script_place, d.in_order)) vs.first_is in
           subst Parted (ok_same _ p m.1) (record {
@@ -83,10 +83,10 @@ module _ (bytes : List ℕ) where
           begins = q.begins;
         }
 
-        same_bytes : sheet-bytes code number p ≡ bytes
-        unfolding sheet-bytes
+        same_bytes : sheet_bytes code number p ≡ bytes
+        unfolding sheet_bytes
         same_bytes =
-            let vs : List ℕ = flat_map (value-bytes code) p.initial in
+            let vs : List ℕ = flat_map (value_bytes code) p.initial in
             let os : List ℕ = flat_map (op_bytes code) p.operations in
             let is : List ℕ = map item_byte_lem p.script in
             let end : drop (field bytes 16 4) bytes ≡ is =
@@ -100,8 +100,8 @@ pub read_then_write : {V : Type 0} (code : V → ℕ) (decode : ℕ → Option V
     → AllBelow 256 bytes → read_answer decode bytes number ≡ Ok p → GivesBack code number p bytes
 unfolding read_answer
 read_then_write code decode number kept bytes p all e =
-    let s = begun (header-answer bytes number) (body-answer decode bytes) p e in
+    let s = begun (header_answer bytes number) (body_answer decode bytes) p e in
     let h = header_back bytes number s.value s.first_is in
-    let q = body_back bytes code number all decode kept p h.0 (ap (body-answer decode bytes) h.1 ∙ s.rest_is) in
+    let q = body_back bytes code number all decode kept p h.0 (ap (body_answer decode bytes) h.1 ∙ s.rest_is) in
     let n = length_is bytes code number all p h.0 q in
     (same_bytes bytes code number all p h.0 q, λ room r. accepted p room (laid_out bytes code number all p h.0 q) (omega arith) ∙ ap Ok n)

@@ -54,37 +54,37 @@ item_byte_lem (Step p) = p
 
 module _ {V : Type 0} (code : V → ℕ) where
   -- codes that are not used are zero
-  abbrev pub new-code : Act V → ℕ
-  new-code (read a) = 0
-  new-code (ll a) = 0
-  new-code (sc a v) = code v
-  new-code (snapshot locations) = 0
-  new-code (kcss v operands) = code v
+  abbrev pub new_code_lem : Act V → ℕ
+  new_code_lem (read a) = 0
+  new_code_lem (ll a) = 0
+  new_code_lem (sc a v) = code v
+  new_code_lem (snapshot locations) = 0
+  new_code_lem (kcss v operands) = code v
 
-  abbrev pub location-bytes : ℕ → List ℕ
-  location-bytes a = operand_bytes a 0
+  abbrev pub location_bytes : ℕ → List ℕ
+  location_bytes a = operand_bytes a 0
 
-  abbrev pub expected-bytes : Operand V → List ℕ
-  expected-bytes o = operand_bytes o.location (code o.expected)
+  abbrev pub expected_bytes : Operand V → List ℕ
+  expected_bytes o = operand_bytes o.location (code o.expected)
 
-  abbrev pub operands-bytes : Act V → List ℕ
-  operands-bytes (read a) = location-bytes a
-  operands-bytes (ll a) = location-bytes a
-  operands-bytes (sc a v) = location-bytes a
-  operands-bytes (snapshot locations) = flat_map location-bytes locations
-  operands-bytes (kcss v operands) = flat_map expected-bytes operands
+  abbrev pub operands_bytes : Act V → List ℕ
+  operands_bytes (read a) = location_bytes a
+  operands_bytes (ll a) = location_bytes a
+  operands_bytes (sc a v) = location_bytes a
+  operands_bytes (snapshot locations) = flat_map location_bytes locations
+  operands_bytes (kcss v operands) = flat_map expected_bytes operands
 
   -- kind, process, count, zero, new code, then the operands
   unfoldable pub op_bytes : Op V → List ℕ
-  op_bytes o = kind_number (act_kind o.act) ∷ o.process ∷ act_count o.act ∷ 0 ∷ (bytes_of 8 (new-code o.act) ++ operands-bytes o.act)
+  op_bytes o = kind_number (act_kind o.act) ∷ o.process ∷ act_count o.act ∷ 0 ∷ (bytes_of 8 (new_code_lem o.act) ++ operands_bytes o.act)
 
-  abbrev pub value-bytes : V → List ℕ
-  value-bytes v = bytes_of 8 (code v)
+  abbrev pub value_bytes : V → List ℕ
+  value_bytes v = bytes_of 8 (code v)
 
   -- version 1, the kind number, three counts, three offsets, the total length
-  unfoldable pub header-bytes : ℕ → Parts V → List ℕ
-  header-bytes number p = 1 ∷ number ∷ (bytes_of 2 (length p.initial) ++ (bytes_of 2 p.processes ++ (bytes_of 2 (length p.script)
+  unfoldable pub header_bytes : ℕ → Parts V → List ℕ
+  header_bytes number p = 1 ∷ number ∷ (bytes_of 2 (length p.initial) ++ (bytes_of 2 p.processes ++ (bytes_of 2 (length p.script)
       ++ (bytes_of 4 24 ++ (bytes_of 4 (operations_at p) ++ (bytes_of 4 (script_at p) ++ bytes_of 4 (total p)))))))
 
-  unfoldable pub sheet-bytes : ℕ → Parts V → List ℕ
-  sheet-bytes number p = header-bytes number p ++ (flat_map value-bytes p.initial ++ (flat_map op_bytes p.operations ++ map item_byte_lem p.script))
+  unfoldable pub sheet_bytes : ℕ → Parts V → List ℕ
+  sheet_bytes number p = header_bytes number p ++ (flat_map value_bytes p.initial ++ (flat_map op_bytes p.operations ++ map item_byte_lem p.script))

@@ -46,8 +46,8 @@ header_by raw long number =
 
 module _ (bytes : List ℕ) where
   -- where the fields of a header stand
-  abbrev pub header-fields : RawHeader
-  header-fields = record {
+  abbrev pub header_fields : RawHeader
+  header_fields = record {
     version = slice_index bytes 0;
     kind = slice_index bytes 1;
     locations = field bytes 2 2;
@@ -60,8 +60,8 @@ module _ (bytes : List ℕ) where
   }
 
   -- 20 for a sheet that is shorter than its header
-  unfoldable pub header-answer : ℕ → Result Header SheetFault
-  header-answer number = require (nat_le 24 (length bytes)) (fault WrongLength (length bytes)) (header_by header-fields (length bytes) number)
+  unfoldable pub header_answer : ℕ → Result Header SheetFault
+  header_answer number = require (nat_le 24 (length bytes)) (fault WrongLength (length bytes)) (header_by header_fields (length bytes) number)
 
   -- whether the expected codes of so many operands, from `at` on, are all zero
   unfoldable pub unused : ℕ → ℕ → Bool
@@ -69,89 +69,89 @@ module _ (bytes : List ℕ) where
   unused at (suc n) = field bytes (at + 2) 8 == 0 && unused (at + 10) n
 
   -- the locations of so many operands
-  unfoldable pub locations-from : ℕ → ℕ → List ℕ
-  locations-from at zero = []
-  locations-from at (suc n) = field bytes at 2 ∷ locations-from (at + 10) n
+  unfoldable pub locations_from : ℕ → ℕ → List ℕ
+  locations_from at zero = []
+  locations_from at (suc n) = field bytes at 2 ∷ locations_from (at + 10) n
 
   -- An operation's head, from `at` on, in a sheet whose script begins at `end`: 23 where the kind is unknown,
   -- the count is not the kind's, the zero byte or an unused code is not zero, or it runs past `end`.
-  abbrev pub head-fits : ℕ → ℕ → OperationKind → Bool
-  head-fits at end kind = counted kind (slice_index bytes (at + 2))
+  abbrev pub head_fits_lem : ℕ → ℕ → OperationKind → Bool
+  head_fits_lem at end kind = counted kind (slice_index bytes (at + 2))
       && (slice_index bytes (at + 3) == 0
       && (nat_le (at + size_by (slice_index bytes (at + 2))) end
       && ((takes_new_lem kind || field bytes (at + 4) 8 == 0)
       && (takes_expected_lem kind || unused (at + 12) (slice_index bytes (at + 2))))))
 
-  abbrev pub head-by : ℕ → ℕ → Option OperationKind → Result OperationHead SheetFault
-  head-by at end None = Err (fault WrongOperation at)
-  head-by at end (Some kind) = require (head-fits at end kind) (fault WrongOperation at)
+  abbrev pub head_by : ℕ → ℕ → Option OperationKind → Result OperationHead SheetFault
+  head_by at end None = Err (fault WrongOperation at)
+  head_by at end (Some kind) = require (head_fits_lem at end kind) (fault WrongOperation at)
       (Ok (record { kind = kind; process = slice_index bytes (at + 1); count = slice_index bytes (at + 2) }))
 
-  unfoldable pub head-answer : ℕ → ℕ → Result OperationHead SheetFault
-  head-answer at end = require (nat_le (at + 12) end) (fault WrongOperation at) (head-by at end (kind_of (slice_index bytes at)))
+  unfoldable pub head_answer : ℕ → ℕ → Result OperationHead SheetFault
+  head_answer at end = require (nat_le (at + 12) end) (fault WrongOperation at) (head_by at end (kind_of (slice_index bytes at)))
 
   -- a script byte, 25 where it is neither below 32 nor 255, and so many of them from `at` on
-  abbrev pub item-answer : ℕ → Result ScriptItem SheetFault
-  item-answer at = ok_or (item_of (slice_index bytes at)) (fault WrongScript at)
+  abbrev pub item_answer : ℕ → Result ScriptItem SheetFault
+  item_answer at = ok_or (item_of (slice_index bytes at)) (fault WrongScript at)
 
-  unfoldable pub script-answer : ℕ → ℕ → Result (List ScriptItem) SheetFault
-  script-answer at zero = Ok []
-  script-answer at (suc n) = followed (item-answer at) (script-answer (at + 1) n)
+  unfoldable pub script_answer : ℕ → ℕ → Result (List ScriptItem) SheetFault
+  script_answer at zero = Ok []
+  script_answer at (suc n) = followed (item_answer at) (script_answer (at + 1) n)
 
 module _ {V : Type 0} (decode : ℕ → Option V) (bytes : List ℕ) where
   -- the value whose code stands at `at`: 24 where it gives none
-  abbrev pub value-answer : ℕ → Result V SheetFault
-  value-answer at = ok_or (decode (field bytes at 8)) (fault WrongCode at)
+  abbrev pub value_answer : ℕ → Result V SheetFault
+  value_answer at = ok_or (decode (field bytes at 8)) (fault WrongCode at)
 
   -- so many values from `at` on
-  unfoldable pub values-answer : ℕ → ℕ → Result (List V) SheetFault
-  values-answer at zero = Ok []
-  values-answer at (suc n) = followed (value-answer at) (values-answer (at + 8) n)
+  unfoldable pub values_answer : ℕ → ℕ → Result (List V) SheetFault
+  values_answer at zero = Ok []
+  values_answer at (suc n) = followed (value_answer at) (values_answer (at + 8) n)
 
   -- one operand, a location and an expected value, and so many of them
-  abbrev pub operand-answer : ℕ → Result (Operand V) SheetFault
-  operand-answer at = then (value-answer (at + 2)) (λ v. Ok (record { location = field bytes at 2; expected = v }))
+  abbrev pub operand_answer : ℕ → Result (Operand V) SheetFault
+  operand_answer at = then (value_answer (at + 2)) (λ v. Ok (record { location = field bytes at 2; expected = v }))
 
-  unfoldable pub operands-answer : ℕ → ℕ → Result (List (Operand V)) SheetFault
-  operands-answer at zero = Ok []
-  operands-answer at (suc n) = followed (operand-answer at) (operands-answer (at + 10) n)
+  unfoldable pub operands_answer : ℕ → ℕ → Result (List (Operand V)) SheetFault
+  operands_answer at zero = Ok []
+  operands_answer at (suc n) = followed (operand_answer at) (operands_answer (at + 10) n)
 
   -- what an operation that starts at `at` is to do
-  abbrev pub action-by : ℕ → OperationKind → ℕ → Result (Act V) SheetFault
-  action-by at Read count = Ok (read (field bytes (at + 12) 2))
-  action-by at Ll count = Ok (ll (field bytes (at + 12) 2))
-  action-by at Sc count = then (value-answer (at + 4)) (λ v. Ok (sc (field bytes (at + 12) 2) v))
-  action-by at Snapshot count = Ok (snapshot (locations-from bytes (at + 12) count))
-  action-by at Kcss count = then (value-answer (at + 4)) (λ v. then (operands-answer (at + 12) count) (λ os. Ok (kcss v os)))
+  abbrev pub action_by : ℕ → OperationKind → ℕ → Result (Act V) SheetFault
+  action_by at Read count = Ok (read (field bytes (at + 12) 2))
+  action_by at Ll count = Ok (ll (field bytes (at + 12) 2))
+  action_by at Sc count = then (value_answer (at + 4)) (λ v. Ok (sc (field bytes (at + 12) 2) v))
+  action_by at Snapshot count = Ok (snapshot (locations_from bytes (at + 12) count))
+  action_by at Kcss count = then (value_answer (at + 4)) (λ v. then (operands_answer (at + 12) count) (λ os. Ok (kcss v os)))
 
-  abbrev pub action-answer : ℕ → OperationHead → Result (Op V) SheetFault
-  action-answer at head = then (action-by at head.kind head.count) (λ a. Ok (record { process = head.process; act = a }))
+  abbrev pub action_answer : ℕ → OperationHead → Result (Op V) SheetFault
+  action_answer at head = then (action_by at head.kind head.count) (λ a. Ok (record { process = head.process; act = a }))
 
-  unfoldable pub operation-answer : ℕ → ℕ → Result (Op V) SheetFault
-  operation-answer end at = then (head-answer bytes at end) (action-answer at)
+  unfoldable pub operation_answer : ℕ → ℕ → Result (Op V) SheetFault
+  operation_answer end at = then (head_answer bytes at end) (action_answer at)
 
   -- The operations from `at` on up to the script, at most `left` of them: one more is 23 at its start.
-  unfoldable pub operations-answer : ℕ → ℕ → ℕ → Result (List (Op V)) SheetFault
-  operations-answer end zero at = require (nat_le end at) (fault WrongOperation at) (Ok [])
-  operations-answer end (suc left) at = cond (nat_le end at) (Ok [])
-      (followed (operation-answer end at) (operations-answer end left (at + size_by (slice_index bytes (at + 2)))))
+  unfoldable pub operations_answer : ℕ → ℕ → ℕ → Result (List (Op V)) SheetFault
+  operations_answer end zero at = require (nat_le end at) (fault WrongOperation at) (Ok [])
+  operations_answer end (suc left) at = cond (nat_le end at) (Ok [])
+      (followed (operation_answer end at) (operations_answer end left (at + size_by (slice_index bytes (at + 2)))))
 
   -- the script has one start for each operation: else 25 at the total
-  abbrev pub joined-answer : Header → List V → List (Op V) → List ScriptItem → Result (Parts V) SheetFault
-  joined-answer h values ops items = require (starts items == length ops) (fault WrongScript (length bytes))
+  abbrev pub joined_answer : Header → List V → List (Op V) → List ScriptItem → Result (Parts V) SheetFault
+  joined_answer h values ops items = require (starts items == length ops) (fault WrongScript (length bytes))
       (Ok (record { initial = values; processes = h.processes; operations = ops; script = items }))
 
-  unfoldable pub body-answer : Header → Result (Parts V) SheetFault
-  body-answer h =
-      then (values-answer 24 h.locations) (λ values.
-      then (operations-answer h.script 4096 h.operations) (λ ops.
-      then (script-answer bytes h.script h.items) (λ items.
-      joined-answer h values ops items)))
+  unfoldable pub body_answer : Header → Result (Parts V) SheetFault
+  body_answer h =
+      then (values_answer 24 h.locations) (λ values.
+      then (operations_answer h.script 4096 h.operations) (λ ops.
+      then (script_answer bytes h.script h.items) (λ items.
+      joined_answer h values ops items)))
 
   unfoldable pub read_answer : ℕ → Result (Parts V) SheetFault
-  read_answer number = then (header-answer bytes number) body-answer
+  read_answer number = then (header_answer bytes number) body_answer
 
   -- There is something to keep: the header is right, and the first code gives a value.
   pub record Keeps (number : ℕ) : Type 0 where
-    pub header : is_ok (header-answer bytes number) ≡ true
-    pub value : is_ok (value-answer 24) ≡ true
+    pub header : is_ok (header_answer bytes number) ≡ true
+    pub value : is_ok (value_answer 24) ≡ true

@@ -9,7 +9,7 @@ use Rattle.sheet_format.specs.Bytes.{overwritten}
 use Rattle.operation.specs.Kinds.{counted}
 use Rattle.sheet_format.specs.Faults.{fault, require, then}
 use Rattle.sheet_format.specs.Parts.{Op, Parts}
-use Rattle.sheet_format.specs.Format.{act_kind, act_count, size_by, operations_at, sheet-bytes}
+use Rattle.sheet_format.specs.Format.{act_kind, act_count, size_by, operations_at, sheet_bytes}
 use Rattle.sheet_format.specs.Reading.{within, starts}
 
 -- where operations that begin at `at` end, if there are at most `left` of them and each has a count of its kind
@@ -31,8 +31,8 @@ script_end_lem at (i ∷ rest) = require (writable i) (fault WrongScript at) (sc
 
 module _ {V : Type 0} (p : Parts V) where
   -- the whole length, or the refusal: 21 for L, P or N, 23 for an operation, 25 for the script
-  unfoldable pub layout-answer : Result ℕ SheetFault
-  layout-answer =
+  unfoldable pub layout_answer : Result ℕ SheetFault
+  layout_answer =
       require (within 1 256 (length p.initial)) (fault WrongHeader 2)
       (require (within 1 32 p.processes) (fault WrongHeader 4)
       (require (nat_le (length p.script) 65535) (fault WrongHeader 6)
@@ -41,9 +41,9 @@ module _ {V : Type 0} (p : Parts V) where
       require (starts p.script == length p.operations) (fault WrongScript total) (Ok total))))))
 
   -- 26 for an output that is too short, at the length that is needed
-  unfoldable pub write-answer : ℕ → Result ℕ SheetFault
-  write-answer room = then layout-answer (λ total. require (nat_le total room) (fault ShortOutput total) (Ok total))
+  unfoldable pub write_answer : ℕ → Result ℕ SheetFault
+  write_answer room = then layout_answer (λ total. require (nat_le total room) (fault ShortOutput total) (Ok total))
 
   -- on a refusal no byte changes
-  abbrev pub write-after : (V → ℕ) → ℕ → List ℕ → List ℕ
-  write-after code number out = cond (is_ok (write-answer (length out))) (overwritten (sheet-bytes code number p) out) out
+  abbrev pub write_after : (V → ℕ) → ℕ → List ℕ → List ℕ
+  write_after code number out = cond (is_ok (write_answer (length out))) (overwritten (sheet_bytes code number p) out) out

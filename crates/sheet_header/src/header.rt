@@ -1,13 +1,13 @@
 // Reading a sheet's header: its length, version, kind, counts and offsets.
 ghost use Rattle.std.specs.Prelude.{◌≡◌, ◌<◌, ◌≤◌, length, Err, MatchOption};
 ghost use Rattle.sheet_format.specs.Faults.{fault};
-ghost use Rattle.sheet_format.specs.Reading.{header-answer, header_by, header-fields};
+ghost use Rattle.sheet_format.specs.Reading.{header_answer, header_by, header_fields};
 
 use sheet_format::{Header, RawHeader, SheetFault, SheetRefusal};
 
 // The fields of the header, if the sheet is long enough to have one.
 fn raw_header(bytes: &[u8]) -> Option<RawHeader>
-    ensures { MatchOption result (length bytes.now < 24) (λ raw. (24 ≤ length bytes.now) × (raw ≡ header-fields bytes.now)) }
+    ensures { MatchOption result (length bytes.now < 24) (λ raw. (24 ≤ length bytes.now) × (raw ≡ header_fields bytes.now)) }
 {
     let [version, kind, l0, l1, p0, p1, n0, n1, rest @ ..] = bytes else {
         return None;
@@ -76,7 +76,7 @@ fn judge_header(raw: &RawHeader, length: usize, kind_number: u8) -> Result<Heade
 
 // What the header says, or the refusal with which it is met, for a sheet of values of one kind.
 pub fn read_header(bytes: &[u8], kind_number: u8) -> Result<Header, SheetFault>
-    ensures { result ≡ header-answer bytes.now kind_number }
+    ensures { result ≡ header_answer bytes.now kind_number }
 {
     match raw_header(bytes) {
         Some(raw) => judge_header(&raw, bytes.len(), kind_number),

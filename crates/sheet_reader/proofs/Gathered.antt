@@ -8,63 +8,63 @@ use Rattle.sheet_format.specs.declared.fault.SheetFault.{SheetFault}
 use Rattle.sheet_format.specs.Faults.{fault, require, followed}
 use Rattle.sheet_format.specs.Format.{size_by}
 use Rattle.sheet_format.specs.Parts.{Op}
-use Rattle.sheet_format.specs.Reading.{operation-answer, operations-answer}
+use Rattle.sheet_format.specs.Reading.{operation_answer, operations_answer}
 use Rattle.sheet_reader.proofs.Answering.{ahead, ahead_none, ahead_more}
 
 module _ {V : Type 0} (decode : ℕ → Option V) (bytes : List ℕ) (end : ℕ) where
-  ended : (left at : ℕ) → end ≤ at → operations-answer decode bytes end left at ≡ Ok []
-  unfolding operations-answer
+  ended : (left at : ℕ) → end ≤ at → operations_answer decode bytes end left at ≡ Ok []
+  unfolding operations_answer
   ended zero at h = let e : leb end at ≡ true = grind (arith, nat_tests) in ap (λ b. require b (fault WrongOperation at) (Ok [])) e
   ended (suc left) at h =
       let e : leb end at ≡ true = grind (arith, nat_tests) in
-      ap (λ b. cond b (Ok []) (followed (operation-answer decode bytes end at) (operations-answer decode bytes end left (at + size_by (get_or bytes (at + 2) 0))))) e
+      ap (λ b. cond b (Ok []) (followed (operation_answer decode bytes end at) (operations_answer decode bytes end left (at + size_by (get_or bytes (at + 2) 0))))) e
 
-  full : (at : ℕ) → at < end → operations-answer decode bytes end 0 at ≡ Err (fault WrongOperation at)
-  unfolding operations-answer
+  full : (at : ℕ) → at < end → operations_answer decode bytes end 0 at ≡ Err (fault WrongOperation at)
+  unfolding operations_answer
   full at h = let e : leb end at ≡ false = grind (arith, nat_tests) in ap (λ b. require b (fault WrongOperation at) (Ok [])) e
 
-  going : (left at : ℕ) → at < end → operations-answer decode bytes end (suc left) at
-      ≡ followed (operation-answer decode bytes end at) (operations-answer decode bytes end left (at + size_by (get_or bytes (at + 2) 0)))
-  unfolding operations-answer
+  going : (left at : ℕ) → at < end → operations_answer decode bytes end (suc left) at
+      ≡ followed (operation_answer decode bytes end at) (operations_answer decode bytes end left (at + size_by (get_or bytes (at + 2) 0)))
+  unfolding operations_answer
   going left at h =
       let e : leb end at ≡ false = grind (arith, nat_tests) in
-      ap (λ b. cond b (Ok []) (followed (operation-answer decode bytes end at) (operations-answer decode bytes end left (at + size_by (get_or bytes (at + 2) 0))))) e
+      ap (λ b. cond b (Ok []) (followed (operation_answer decode bytes end at) (operations_answer decode bytes end left (at + size_by (get_or bytes (at + 2) 0))))) e
 
   module _ (most first : ℕ) where
     -- n operations were read, and the next one starts at `next`
     abbrev pub Gathered : List (Op V) → ℕ → ℕ → Type 0
-    Gathered done n next = ahead done (operations-answer decode bytes end (most - n) next) ≡ operations-answer decode bytes end most first
+    Gathered done n next = ahead done (operations_answer decode bytes end (most - n) next) ≡ operations_answer decode bytes end most first
 
     pub gathered_none : (done : List (Op V)) (n : ℕ) → done ≡ [] → n ≡ 0 → Gathered done n first
     gathered_none done n e z =
         let m : most - n ≡ most = omega arith in
-        ap (λ xs. ahead xs (operations-answer decode bytes end (most - n) first)) e ∙ ahead_none _ ∙ ap (λ k. operations-answer decode bytes end k first) m
+        ap (λ xs. ahead xs (operations_answer decode bytes end (most - n) first)) e ∙ ahead_none _ ∙ ap (λ k. operations_answer decode bytes end k first) m
 
     module _ (done : List (Op V)) (n next : ℕ) (h : Gathered done n next) where
-      pub gathered_all : end ≤ next → operations-answer decode bytes end most first ≡ Ok done
+      pub gathered_all : end ≤ next → operations_answer decode bytes end most first ≡ Ok done
       gathered_all e = sym h ∙ ap (ahead done) (ended (most - n) next e) ∙ ap Ok (append-nil done)
 
-      pub gathered_full : n ≡ most → next < end → operations-answer decode bytes end most first ≡ Err (fault WrongOperation next)
+      pub gathered_full : n ≡ most → next < end → operations_answer decode bytes end most first ≡ Err (fault WrongOperation next)
       gathered_full e l =
           let m : most - n ≡ 0 = omega arith in
-          sym h ∙ ap (ahead done) (ap (λ k. operations-answer decode bytes end k next) m ∙ full next l)
+          sym h ∙ ap (ahead done) (ap (λ k. operations_answer decode bytes end k next) m ∙ full next l)
 
       module _ (some : n < most) (l : next < end) where
-        opened : operations-answer decode bytes end (most - n) next
-            ≡ followed (operation-answer decode bytes end next) (operations-answer decode bytes end (most - (n + 1)) (next + size_by (get_or bytes (next + 2) 0)))
+        opened : operations_answer decode bytes end (most - n) next
+            ≡ followed (operation_answer decode bytes end next) (operations_answer decode bytes end (most - (n + 1)) (next + size_by (get_or bytes (next + 2) 0)))
         opened =
             let m : most - n ≡ suc (most - (n + 1)) = omega arith in
-            ap (λ k. operations-answer decode bytes end k next) m ∙ going (most - (n + 1)) next l
+            ap (λ k. operations_answer decode bytes end k next) m ∙ going (most - (n + 1)) next l
 
-        pub gathered_refused : (f : SheetFault) → operation-answer decode bytes end next ≡ Err f → operations-answer decode bytes end most first ≡ Err f
+        pub gathered_refused : (f : SheetFault) → operation_answer decode bytes end next ≡ Err f → operations_answer decode bytes end most first ≡ Err f
         gathered_refused f e =
-            sym h ∙ ap (ahead done) (opened ∙ ap (λ r. followed r (operations-answer decode bytes end (most - (n + 1)) (next + size_by (get_or bytes (next + 2) 0)))) e)
+            sym h ∙ ap (ahead done) (opened ∙ ap (λ r. followed r (operations_answer decode bytes end (most - (n + 1)) (next + size_by (get_or bytes (next + 2) 0)))) e)
 
-        pub gathered_more : (o : Op V) (done' : List (Op V)) (n' after : ℕ) → operation-answer decode bytes end next ≡ Ok o → done' ≡ done ++ o ∷ []
+        pub gathered_more : (o : Op V) (done' : List (Op V)) (n' after : ℕ) → operation_answer decode bytes end next ≡ Ok o → done' ≡ done ++ o ∷ []
             → n' ≡ n + 1 → after ≡ next + size_by (get_or bytes (next + 2) 0) → Gathered done' n' after
         gathered_more o done' n' after e d c a =
-            let rest = operations-answer decode bytes end (most - (n + 1)) (next + size_by (get_or bytes (next + 2) 0)) in
-            ap (λ xs. ahead xs (operations-answer decode bytes end (most - n') after)) d
-            ∙ ap (λ k. ahead (done ++ o ∷ []) (operations-answer decode bytes end (most - k) after)) c
-            ∙ ap (λ k. ahead (done ++ o ∷ []) (operations-answer decode bytes end (most - (n + 1)) k)) a
+            let rest = operations_answer decode bytes end (most - (n + 1)) (next + size_by (get_or bytes (next + 2) 0)) in
+            ap (λ xs. ahead xs (operations_answer decode bytes end (most - n') after)) d
+            ∙ ap (λ k. ahead (done ++ o ∷ []) (operations_answer decode bytes end (most - k) after)) c
+            ∙ ap (λ k. ahead (done ++ o ∷ []) (operations_answer decode bytes end (most - (n + 1)) k)) a
             ∙ ahead_more done o rest ∙ sym (ap (ahead done) (opened ∙ ap (λ r. followed r rest) e)) ∙ h

@@ -1,7 +1,7 @@
 // Reading what a sheet holds many of: values, locations, operands, script items.
 ghost use Rattle.std.specs.Prelude.{◌≡◌, ◌+◌, ◌*◌, ◌≤◌, true, length, is_ok, IfOk};
 ghost use Rattle.sheet_format.specs.Faults.{NeedsMemory, Reads};
-ghost use Rattle.sheet_format.specs.Reading.{value-answer, values-answer, operand-answer, operands-answer, locations-from, item-answer, script-answer};
+ghost use Rattle.sheet_format.specs.Reading.{value_answer, values_answer, operand_answer, operands_answer, locations_from, item_answer, script_answer};
 
 use crate::bytes::{location_at, number_at};
 use sheet_format::{Operand, ReadError, ScriptItem, SheetFault, SheetRefusal};
@@ -11,7 +11,7 @@ use value::ValueKind;
 // The value whose code stands at `at`.
 pub(crate) fn read_value<V: ValueKind>(bytes: &[u8], at: usize) -> Result<V, SheetFault>
     requires { at + 8 ≤ length bytes.now }
-    ensures { result ≡ value-answer decoded bytes.now at }
+    ensures { result ≡ value_answer decoded bytes.now at }
 {
     V::from_code(number_at(bytes, at, 8)).ok_or(SheetFault {
         refusal: SheetRefusal::WrongCode,
@@ -27,8 +27,8 @@ pub(crate) fn read_values<V: ValueKind>(
     count: usize,
 ) -> Result<Vec<V>, ReadError>
     requires { at + 8 * count ≤ length bytes.now }
-    ensures answer { Reads (λ v. v.items) result (values-answer decoded bytes.now at count) }
-    ensures memory { NeedsMemory result (is_ok (value-answer decoded bytes.now at) ≡ true) }
+    ensures answer { Reads (λ v. v.items) result (values_answer decoded bytes.now at count) }
+    ensures memory { NeedsMemory result (is_ok (value_answer decoded bytes.now at) ≡ true) }
 {
     let mut values = Vec::new(heap);
     for i in 0..count {
@@ -41,7 +41,7 @@ pub(crate) fn read_values<V: ValueKind>(
 // One operand: a location and the value expected there.
 pub(crate) fn read_operand<V: ValueKind>(bytes: &[u8], at: usize) -> Result<Operand<V>, SheetFault>
     requires { at + 10 ≤ length bytes.now }
-    ensures { result ≡ operand-answer decoded bytes.now at }
+    ensures { result ≡ operand_answer decoded bytes.now at }
 {
     let location = location_at(bytes, at);
     let expected = read_value(bytes, at + 2)?;
@@ -56,7 +56,7 @@ pub(crate) fn read_operands<V: ValueKind>(
     count: usize,
 ) -> Result<Vec<Operand<V>>, ReadError>
     requires { at + 10 * count ≤ length bytes.now }
-    ensures { Reads (λ v. v.items) result (operands-answer decoded bytes.now at count) }
+    ensures { Reads (λ v. v.items) result (operands_answer decoded bytes.now at count) }
 {
     let mut operands = Vec::new(heap);
     for i in 0..count {
@@ -74,7 +74,7 @@ pub(crate) fn read_locations(
     count: usize,
 ) -> Result<Vec<u16>, AllocError>
     requires { at + 10 * count ≤ length bytes.now }
-    ensures { IfOk result (λ v. v.items ≡ locations-from bytes.now at count) }
+    ensures { IfOk result (λ v. v.items ≡ locations_from bytes.now at count) }
 {
     let mut locations = Vec::new(heap);
     for i in 0..count {
@@ -86,7 +86,7 @@ pub(crate) fn read_locations(
 // The script item whose byte stands at `at`.
 pub(crate) fn read_item(bytes: &[u8], at: usize) -> Result<ScriptItem, SheetFault>
     requires { at + 1 ≤ length bytes.now }
-    ensures { result ≡ item-answer bytes.now at }
+    ensures { result ≡ item_answer bytes.now at }
 {
     match bytes[at] {
         255 => Ok(ScriptItem::Start),
@@ -106,7 +106,7 @@ pub(crate) fn read_script(
     count: usize,
 ) -> Result<Vec<ScriptItem>, ReadError>
     requires { at + count ≤ length bytes.now }
-    ensures { Reads (λ v. v.items) result (script-answer bytes.now at count) }
+    ensures { Reads (λ v. v.items) result (script_answer bytes.now at count) }
 {
     let mut items = Vec::new(heap);
     for i in 0..count {

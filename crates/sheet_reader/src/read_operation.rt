@@ -3,7 +3,7 @@ ghost use Rattle.std.specs.Prelude.{◌≡◌, ◌+◌, ◌*◌, ◌≤◌, leng
 ghost use Rattle.sheet_format.specs.Faults.{Reads};
 ghost use Rattle.sheet_format.specs.Format.{size_by};
 ghost use Rattle.sheet_format.specs.Parts.{act_of, op_of};
-ghost use Rattle.sheet_format.specs.Reading.{unused, head-fits, head-answer, action-by, operation-answer};
+ghost use Rattle.sheet_format.specs.Reading.{unused, head_fits_lem, head_answer, action_by, operation_answer};
 
 use crate::bytes::{location_at, number_at};
 use crate::read_lists::{read_locations, read_operands, read_value};
@@ -29,7 +29,7 @@ fn codes_unused(bytes: &[u8], at: usize, count: usize) -> bool
 fn head_fits(bytes: &[u8], at: usize, end: usize, kind: OperationKind) -> bool
     requires short { at + 12 ≤ end }
     requires inside { end ≤ length bytes.now }
-    ensures { result ≡ head-fits bytes.now at end kind }
+    ensures { result ≡ head_fits_lem bytes.now at end kind }
 {
     let count = bytes[at + 2] as usize;
     kind.counts(count)
@@ -43,7 +43,7 @@ fn head_fits(bytes: &[u8], at: usize, end: usize, kind: OperationKind) -> bool
 fn read_head(bytes: &[u8], at: usize, end: usize) -> Result<OperationHead, SheetFault>
     requires before { at ≤ end }
     requires inside { end ≤ length bytes.now }
-    ensures { result ≡ head-answer bytes.now at end }
+    ensures { result ≡ head_answer bytes.now at end }
 {
     let wrong = SheetFault {
         refusal: SheetRefusal::WrongOperation,
@@ -73,7 +73,7 @@ fn read_action<V: ValueKind>(
 ) -> Result<Action<V>, ReadError>
     requires some { 1 ≤ head.count }
     requires inside { at + size_by head.count ≤ length bytes.now }
-    ensures { Reads act_of result (action-by decoded bytes.now at head.kind head.count) }
+    ensures { Reads act_of result (action_by decoded bytes.now at head.kind head.count) }
 {
     let operands_at = at + 12;
     let location = location_at(bytes, operands_at);
@@ -105,7 +105,7 @@ pub(crate) fn read_operation<V: ValueKind>(
 ) -> Result<(Operation<V>, usize), ReadError>
     requires before { at ≤ end }
     requires inside { end ≤ length bytes.now }
-    ensures answer { Reads (λ read. op_of read.0) result (operation-answer decoded bytes.now end at) }
+    ensures answer { Reads (λ read. op_of read.0) result (operation_answer decoded bytes.now end at) }
     ensures next { IfOk result (λ read. (read.1 ≡ at + size_by (slice_index bytes.now (at + 2))) × (read.1 ≤ end)) }
 {
     let head = read_head(bytes, at, end)?;

@@ -2,7 +2,7 @@
 ghost use Rattle.std.specs.Prelude.{◌≡◌, ◌≤◌, map, length, IfOk};
 ghost use Rattle.sheet_format.specs.Faults.{NeedsMemory, Reads};
 ghost use Rattle.sheet_format.specs.Parts.{op_of, parts_of};
-ghost use Rattle.sheet_format.specs.Reading.{Keeps, operations-answer, read_answer};
+ghost use Rattle.sheet_format.specs.Reading.{Keeps, operations_answer, read_answer};
 ghost use Rattle.sheet_format.specs.RoundTrip.{GivesBack};
 
 use crate::read_lists::{read_script, read_values};
@@ -24,7 +24,7 @@ fn read_operations<V: ValueKind>(
 ) -> Result<Vec<Operation<V>>, ReadError>
     requires before { at ≤ end }
     requires inside { end ≤ length bytes.now }
-    ensures { Reads (λ v. map op_of v.items) result (operations-answer decoded bytes.now end 4096 at) }
+    ensures { Reads (λ v. map op_of v.items) result (operations_answer decoded bytes.now end 4096 at) }
 {
     let mut operations = Vec::new(heap);
     let mut next = at;

@@ -16,7 +16,7 @@ use Rattle.sheet_format.specs.Format.{act_kind, act_count, size_by, operations_a
 use Rattle.sheet_format.specs.Reading.{within, starts}
 use Rattle.sheet_format.proofs.Counts.{true_within}
 use Rattle.sheet_format.proofs.Steps.{pass, stop, go_on, refused}
-use Rattle.sheet_format.specs.Writing.{operations_end_lem, writable, script_end_lem, layout-answer}
+use Rattle.sheet_format.specs.Writing.{operations_end_lem, writable, script_end_lem, layout_answer}
 
 -- a test at one kind and count, known at equal ones
 pub counted_at : {r b : Bool} {k k' : OperationKind} {n n' : ℕ} → r ≡ counted k n → r ≡ b → k ≡ k' → n ≡ n' → counted k' n' ≡ b
@@ -101,49 +101,49 @@ items_at at is was q = sym (ap (script_end_lem at) q) ∙ sym is ∙ was
 
 -- the rules of the layout past the three counts, and its ways out
 module _ {V : Type 0} (p : Parts V) where
-  abbrev pub script-rule : ℕ → Result ℕ SheetFault
-  script-rule end = require (eqb (starts p.script) (length p.operations)) (fault WrongScript end) (Ok end)
+  abbrev pub script_rule : ℕ → Result ℕ SheetFault
+  script_rule end = require (eqb (starts p.script) (length p.operations)) (fault WrongScript end) (Ok end)
 
-  abbrev pub body-rule : Result ℕ SheetFault
-  body-rule = then (operations_end_lem (operations_at p) 4096 p.operations) (λ s. then (script_end_lem s p.script) script-rule)
+  abbrev pub body_rule : Result ℕ SheetFault
+  body_rule = then (operations_end_lem (operations_at p) 4096 p.operations) (λ s. then (script_end_lem s p.script) script_rule)
 
-  pub wrong_locations : (length p.initial < 1) ⊎ (256 < length p.initial) → layout-answer p ≡ Err (fault WrongHeader 2)
-  unfolding layout-answer
+  pub wrong_locations : (length p.initial < 1) ⊎ (256 < length p.initial) → layout_answer p ≡ Err (fault WrongHeader 2)
+  unfolding layout_answer
   wrong_locations h = stop _ _ _ (within_false 1 256 (length p.initial) h)
 
   module _ (l : 1 ≤ length p.initial) (m : length p.initial ≤ 256) where
-    pub wrong_processes : (p.processes < 1) ⊎ (32 < p.processes) → layout-answer p ≡ Err (fault WrongHeader 4)
-    unfolding layout-answer
+    pub wrong_processes : (p.processes < 1) ⊎ (32 < p.processes) → layout_answer p ≡ Err (fault WrongHeader 4)
+    unfolding layout_answer
     wrong_processes h = pass _ _ _ _ (true_within 1 256 (length p.initial) l m) (stop _ _ _ (within_false 1 32 p.processes h))
 
     module _ (q : 1 ≤ p.processes) (r : p.processes ≤ 32) where
-      pub wrong_items : 65535 < length p.script → layout-answer p ≡ Err (fault WrongHeader 6)
-      unfolding layout-answer
+      pub wrong_items : 65535 < length p.script → layout_answer p ≡ Err (fault WrongHeader 6)
+      unfolding layout_answer
       wrong_items h =
           let e : leb (length p.script) 65535 ≡ false = grind (arith, nat_tests) in
           pass _ _ _ _ (true_within 1 256 (length p.initial) l m) (pass _ _ _ _ (true_within 1 32 p.processes q r) (stop _ _ _ e))
 
       module _ (n : length p.script ≤ 65535) where
-        body : layout-answer p ≡ body-rule
-        unfolding layout-answer
+        body : layout_answer p ≡ body_rule
+        unfolding layout_answer
         body =
             let e : leb (length p.script) 65535 ≡ true = grind (arith, nat_tests) in
             pass _ _ _ _ (true_within 1 256 (length p.initial) l m) (pass _ _ _ _ (true_within 1 32 p.processes q r) (pass _ _ _ _ e refl))
 
-        pub wrong_operation : (f : SheetFault) → operations_end_lem (operations_at p) 4096 p.operations ≡ Err f → layout-answer p ≡ Err f
+        pub wrong_operation : (f : SheetFault) → operations_end_lem (operations_at p) 4096 p.operations ≡ Err f → layout_answer p ≡ Err f
         wrong_operation f e = body ∙ refused _ _ f e
 
         module _ (s : ℕ) (ops : operations_end_lem (operations_at p) 4096 p.operations ≡ Ok s) where
-          pub wrong_item : (f : SheetFault) → script_end_lem s p.script ≡ Err f → layout-answer p ≡ Err f
+          pub wrong_item : (f : SheetFault) → script_end_lem s p.script ≡ Err f → layout_answer p ≡ Err f
           wrong_item f e = body ∙ go_on _ _ s _ ops (refused _ _ f e)
 
           module _ (end : ℕ) (items : script_end_lem s p.script ≡ Ok end) where
-            pub wrong_starts : (starts p.script ≡ length p.operations → ⊥) → layout-answer p ≡ Err (fault WrongScript end)
+            pub wrong_starts : (starts p.script ≡ length p.operations → ⊥) → layout_answer p ≡ Err (fault WrongScript end)
             wrong_starts h =
                 let e : eqb (starts p.script) (length p.operations) ≡ false = grind (arith, nat_tests) in
                 body ∙ go_on _ _ s _ ops (go_on _ _ end _ items (stop _ _ _ e))
 
-            pub right_starts : starts p.script ≡ length p.operations → layout-answer p ≡ Ok end
+            pub right_starts : starts p.script ≡ length p.operations → layout_answer p ≡ Ok end
             right_starts h =
                 let e : eqb (starts p.script) (length p.operations) ≡ true = grind (arith, nat_tests) in
                 body ∙ go_on _ _ s _ ops (go_on _ _ end _ items (pass _ _ _ _ e refl))

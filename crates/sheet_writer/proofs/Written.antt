@@ -9,9 +9,9 @@ use Rattle.sheet_format.specs.Bytes.{overwritten}
 use Rattle.sheet_format.specs.Faults.{fault}
 use Rattle.operation.specs.Kinds.{counted}
 use Rattle.sheet_format.specs.Parts.{Op, Parts, op_of}
-use Rattle.sheet_format.specs.Format.{act_kind, act_count, size_by, operations_at, script_at, total, sheet-bytes}
+use Rattle.sheet_format.specs.Format.{act_kind, act_count, size_by, operations_at, script_at, total, sheet_bytes}
 use Rattle.sheet_writer.specs.Puts.{Small}
-use Rattle.sheet_format.specs.Writing.{operations_end_lem, layout-answer, write-answer, write-after}
+use Rattle.sheet_format.specs.Writing.{operations_end_lem, layout_answer, write_answer, write_after}
 use Rattle.sheet_format.proofs.Counts.{counted_range}
 use Rattle.sheet_format.proofs.Steps.{never_ok, pass, stop, passed, go_on, refused}
 use Rattle.sheet_format.proofs.Accepted.{laid_out}
@@ -31,7 +31,7 @@ counts at (suc left) end (o ∷ os) e =
     let range = counted_range (act_kind o.act) (act_count o.act) q.0 in
     λ k d h. elim k as (λ n. n < length (o ∷ os) → act_count (get_or (o ∷ os) n d).act < 256) [ zero ↦ λ _. omega arith | suc n ↦ λ l. rest n d (omega arith) ] h
 
-module _ {V : Type 0} (p : Parts V) (end : ℕ) (laid : layout-answer p ≡ Ok end) where
+module _ {V : Type 0} (p : Parts V) (end : ℕ) (laid : layout_answer p ≡ Ok end) where
   pub laid_total : end ≡ total p
   laid_total = (laid_out p end laid).1
 
@@ -42,25 +42,25 @@ module _ {V : Type 0} (p : Parts V) (end : ℕ) (laid : layout-answer p ≡ Ok e
       subst (λ o. act_count o.act < 256) (get_or-map op_of os k d (op_of d) h) small
 
 module _ {V : Type 0} (p : Parts V) (room : ℕ) where
-  pub write_refused : (f : SheetFault) → layout-answer p ≡ Err f → write-answer p room ≡ Err f
-  unfolding write-answer
+  pub write_refused : (f : SheetFault) → layout_answer p ≡ Err f → write_answer p room ≡ Err f
+  unfolding write_answer
   write_refused f e = refused _ _ f e
 
-  pub write_short : (end : ℕ) → layout-answer p ≡ Ok end → room < end → write-answer p room ≡ Err (fault ShortOutput end)
-  unfolding write-answer
+  pub write_short : (end : ℕ) → layout_answer p ≡ Ok end → room < end → write_answer p room ≡ Err (fault ShortOutput end)
+  unfolding write_answer
   write_short end e h =
       let t : leb end room ≡ false = grind (arith, nat_tests) in
       go_on _ _ end _ e (stop _ _ _ t)
 
-  pub write_fits : (end : ℕ) → layout-answer p ≡ Ok end → end ≤ room → write-answer p room ≡ Ok end
-  unfolding write-answer
+  pub write_fits : (end : ℕ) → layout_answer p ≡ Ok end → end ≤ room → write_answer p room ≡ Ok end
+  unfolding write_answer
   write_fits end e h =
       let t : leb end room ≡ true = grind (arith, nat_tests) in
       go_on _ _ end _ e (pass _ _ _ _ t refl)
 
 module _ {V : Type 0} (p : Parts V) (code : V → ℕ) (number : ℕ) (out : List ℕ) where
-  pub after_refused : (f : SheetFault) → write-answer p (length out) ≡ Err f → write-after p code number out ≡ out
-  after_refused f e = ap (λ r. cond (is_ok r) (overwritten (sheet-bytes code number p) out) out) e
+  pub after_refused : (f : SheetFault) → write_answer p (length out) ≡ Err f → write_after p code number out ≡ out
+  after_refused f e = ap (λ r. cond (is_ok r) (overwritten (sheet_bytes code number p) out) out) e
 
-  pub after_fits : (end : ℕ) → write-answer p (length out) ≡ Ok end → write-after p code number out ≡ overwritten (sheet-bytes code number p) out
-  after_fits end e = ap (λ r. cond (is_ok r) (overwritten (sheet-bytes code number p) out) out) e
+  pub after_fits : (end : ℕ) → write_answer p (length out) ≡ Ok end → write_after p code number out ≡ overwritten (sheet_bytes code number p) out
+  after_fits end e = ap (λ r. cond (is_ok r) (overwritten (sheet_bytes code number p) out) out) e

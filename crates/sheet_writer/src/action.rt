@@ -1,7 +1,7 @@
 // What writing asks of the parts of a sheet: an action's kind, how many locations it names and the code of
 // its new value, and a script item's byte.
 ghost use Rattle.std.specs.Prelude.{◌≡◌};
-ghost use Rattle.sheet_format.specs.Format.{act_kind, act_count, new-code, item_byte_lem};
+ghost use Rattle.sheet_format.specs.Format.{act_kind, act_count, new_code_lem, item_byte_lem};
 ghost use Rattle.sheet_format.specs.Parts.{act_of};
 ghost use Rattle.sheet_format.specs.Writing.{writable};
 
@@ -35,7 +35,7 @@ pub(crate) fn action_count<V: ValueKind>(action: &Action<V>) -> usize
 
 // The code of the new value, and 0 where there is none.
 pub(crate) fn new_code<V: ValueKind>(action: &Action<V>) -> u64
-    ensures { result ≡ new-code coded (act_of action.now) }
+    ensures { result ≡ new_code_lem coded (act_of action.now) }
 {
     match action {
         Action::Read(_) | Action::Ll(_) | Action::Snapshot(_) => 0,

@@ -2,7 +2,7 @@
 // parts of a sheet end.
 ghost use Rattle.std.specs.Prelude.{◌≡◌, ◌+◌, ◌*◌, ◌≤◌, map, length, IfOk};
 ghost use Rattle.sheet_format.specs.Parts.{op_of, parts_of};
-ghost use Rattle.sheet_format.specs.Writing.{operations_end_lem, script_end_lem, layout-answer};
+ghost use Rattle.sheet_format.specs.Writing.{operations_end_lem, script_end_lem, layout_answer};
 
 use crate::action::{action_count, action_kind, is_writable};
 use sheet_format::{
@@ -50,7 +50,7 @@ fn script_end(at: usize, items: &[ScriptItem]) -> Result<usize, SheetFault>
 
 // The length of the sheet's bytes, or why it has none.
 pub(crate) fn layout<V: ValueKind>(sheet: &Sheet<V>) -> Result<usize, SheetFault>
-    ensures { result ≡ layout-answer (parts_of sheet.now) }
+    ensures { result ≡ layout_answer (parts_of sheet.now) }
 {
     let locations = sheet.initial.len();
     if locations < 1 || locations > 256 {

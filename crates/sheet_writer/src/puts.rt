@@ -3,7 +3,7 @@
 ghost use Rattle.std.specs.Prelude.{◌≡◌, ◌<◌, map};
 ghost use Rattle.std.specs.List.{flat_map};
 ghost use Rattle.sheet_format.specs.Bytes.{bytes_of, AllBelow};
-ghost use Rattle.sheet_format.specs.Format.{operand_bytes, item_byte_lem, expected-bytes, operands-bytes, op_bytes, value-bytes, act_count, header-bytes, sheet-bytes, total};
+ghost use Rattle.sheet_format.specs.Format.{operand_bytes, item_byte_lem, expected_bytes, operands_bytes, op_bytes, value_bytes, act_count, header_bytes, sheet_bytes, total};
 ghost use Rattle.sheet_format.specs.Parts.{act_of, op_of, parts_of, Operands, Fitting, AllFitting};
 ghost use Rattle.sheet_writer.specs.Puts.{Room, Puts, Small, field_bytes};
 
@@ -38,8 +38,8 @@ fn put_fields(out: &mut [u8], at: usize, fields: &[(usize, u64)]) -> usize
 
 // The codes of the values.
 fn put_values<V: ValueKind>(out: &mut [u8], at: usize, values: &[V]) -> usize
-    requires { Room out.old at (flat_map (value-bytes coded) values.now) }
-    ensures { Puts out.old at (flat_map (value-bytes coded) values.now) out.new result }
+    requires { Room out.old at (flat_map (value_bytes coded) values.now) }
+    ensures { Puts out.old at (flat_map (value_bytes coded) values.now) out.new result }
 {
     let mut next = at;
     for value in values {
@@ -73,8 +73,8 @@ fn put_locations(out: &mut [u8], at: usize, locations: &[u16]) -> usize
 
 // Locations, each with the code of its expected value.
 fn put_expected<V: ValueKind>(out: &mut [u8], at: usize, operands: &[Operand<V>]) -> usize
-    requires { Room out.old at (flat_map (expected-bytes coded) operands.now) }
-    ensures puts { Puts out.old at (flat_map (expected-bytes coded) operands.now) out.new result }
+    requires { Room out.old at (flat_map (expected_bytes coded) operands.now) }
+    ensures puts { Puts out.old at (flat_map (expected_bytes coded) operands.now) out.new result }
     ensures fits { Operands operands.now }
 {
     let mut next = at;
@@ -86,8 +86,8 @@ fn put_expected<V: ValueKind>(out: &mut [u8], at: usize, operands: &[Operand<V>]
 
 // The locations that an action names, with the codes that it expects there.
 fn put_operands<V: ValueKind>(out: &mut [u8], at: usize, action: &Action<V>) -> usize
-    requires { Room out.old at (operands-bytes coded (act_of action.now)) }
-    ensures puts { Puts out.old at (operands-bytes coded (act_of action.now)) out.new result }
+    requires { Room out.old at (operands_bytes coded (act_of action.now)) }
+    ensures puts { Puts out.old at (operands_bytes coded (act_of action.now)) out.new result }
     ensures fits { Fitting (act_of action.now) }
 {
     match action {
@@ -146,9 +146,9 @@ fn put_script(out: &mut [u8], at: usize, items: &[ScriptItem]) -> usize
 
 // The header of a sheet whose bytes end at `end`.
 fn put_header<V: ValueKind>(out: &mut [u8], sheet: &Sheet<V>, end: usize) -> usize
-    requires room { Room out.old 0 (header-bytes coded number (parts_of sheet.now)) }
+    requires room { Room out.old 0 (header_bytes coded number (parts_of sheet.now)) }
     requires whole { end ≡ total (parts_of sheet.now) }
-    ensures { Puts out.old 0 (header-bytes coded number (parts_of sheet.now)) out.new result }
+    ensures { Puts out.old 0 (header_bytes coded number (parts_of sheet.now)) out.new result }
 {
     let locations = sheet.initial.len();
     let items = sheet.script.len();
@@ -168,10 +168,10 @@ fn put_header<V: ValueKind>(out: &mut [u8], sheet: &Sheet<V>, end: usize) -> usi
 
 // A whole sheet, from the beginning of the output on; its bytes end at `end`.
 pub(crate) fn put_sheet<V: ValueKind>(out: &mut [u8], sheet: &Sheet<V>, end: usize) -> usize
-    requires room { Room out.old 0 (sheet-bytes coded number (parts_of sheet.now)) }
+    requires room { Room out.old 0 (sheet_bytes coded number (parts_of sheet.now)) }
     requires whole { end ≡ total (parts_of sheet.now) }
     requires small { Small sheet.now.operations.items }
-    ensures puts { Puts out.old 0 (sheet-bytes coded number (parts_of sheet.now)) out.new result }
+    ensures puts { Puts out.old 0 (sheet_bytes coded number (parts_of sheet.now)) out.new result }
     ensures fits { AllFitting (parts_of sheet.now).operations }
 {
     let values_at = put_header(out, sheet, end);

@@ -3,7 +3,7 @@
 ghost use Rattle.std.specs.Prelude.{◌≡◌, length, take, IfOk, Ok};
 ghost use Rattle.sheet_format.specs.Parts.{parts_of};
 ghost use Rattle.sheet_format.specs.Reading.{read_answer};
-ghost use Rattle.sheet_format.specs.Writing.{write-answer, write-after};
+ghost use Rattle.sheet_format.specs.Writing.{write_answer, write_after};
 
 use crate::layout::layout;
 use crate::puts::put_sheet;
@@ -13,8 +13,8 @@ use value::ValueKind;
 // Writes a sheet's bytes to the front of `out`, and returns how many they are. Reading them gives the
 // sheet back.
 pub fn write<V: ValueKind>(sheet: &Sheet<V>, out: &mut [u8]) -> Result<usize, SheetFault>
-    ensures answer { result ≡ write-answer (parts_of sheet.now) (length out.old) }
-    ensures after { out.new ≡ write-after (parts_of sheet.now) coded number out.old }
+    ensures answer { result ≡ write_answer (parts_of sheet.now) (length out.old) }
+    ensures after { out.new ≡ write_after (parts_of sheet.now) coded number out.old }
     ensures returns { IfOk result (λ n. read_answer decoded (take n out.new) number ≡ Ok (parts_of sheet.now)) }
 {
     let end = layout(sheet)?;

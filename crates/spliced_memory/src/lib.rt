@@ -4,7 +4,7 @@
 
 ghost use Rattle.std.specs.Prelude.{◌≡◌};
 ghost use Rattle.spliced_memory.specs.Joined.{joined, joined_limits, SidesKept};
-ghost use Rattle.memory.specs.Rules.{first_cells, first_few, store-answer, store_after, cas-answer, cas-after, table_stored, table_swapped};
+ghost use Rattle.memory.specs.Rules.{first_cells, first_few, store_answer, store_after, cas_answer, cas_after, table_stored, table_swapped};
 
 use memory::{Cell, Limits, Memory, MemoryFault, admit_change, counted_cells};
 use value::ValueKind;
@@ -46,7 +46,7 @@ impl<V: ValueKind, A: Memory<V>, B: Memory<V>> Memory<V> for Spliced<A, B> {
     // Beyond the interface, no other cell of the two memories changes, be it past the first 65,535, and each keeps its
     // length and its limits.
     fn store(&mut self, i: usize, cell: &Cell<V>) -> Result<(), MemoryFault>
-        ensures answer { result ≡ store-answer coded (joined_limits A.Memory.limits B.Memory.limits self.old) (first_cells (joined A.Memory.cells B.Memory.cells self.old)) i cell.now }
+        ensures answer { result ≡ store_answer coded (joined_limits A.Memory.limits B.Memory.limits self.old) (first_cells (joined A.Memory.cells B.Memory.cells self.old)) i cell.now }
         ensures after { first_cells (joined A.Memory.cells B.Memory.cells self.new) ≡ store_after coded (joined_limits A.Memory.limits B.Memory.limits self.old) (first_cells (joined A.Memory.cells B.Memory.cells self.old)) i cell.now }
         ensures kept { joined_limits A.Memory.limits B.Memory.limits self.new ≡ joined_limits A.Memory.limits B.Memory.limits self.old }
         ensures table { joined A.Memory.cells B.Memory.cells self.new ≡ table_stored result (joined A.Memory.cells B.Memory.cells self.old) i cell.now }
@@ -62,8 +62,8 @@ impl<V: ValueKind, A: Memory<V>, B: Memory<V>> Memory<V> for Spliced<A, B> {
     }
 
     fn cas(&mut self, i: usize, old: &Cell<V>, new: &Cell<V>) -> Result<bool, MemoryFault>
-        ensures answer { result ≡ cas-answer coded (joined_limits A.Memory.limits B.Memory.limits self.old) (first_cells (joined A.Memory.cells B.Memory.cells self.old)) i old.now new.now }
-        ensures after { first_cells (joined A.Memory.cells B.Memory.cells self.new) ≡ cas-after coded (joined_limits A.Memory.limits B.Memory.limits self.old) (first_cells (joined A.Memory.cells B.Memory.cells self.old)) i old.now new.now }
+        ensures answer { result ≡ cas_answer coded (joined_limits A.Memory.limits B.Memory.limits self.old) (first_cells (joined A.Memory.cells B.Memory.cells self.old)) i old.now new.now }
+        ensures after { first_cells (joined A.Memory.cells B.Memory.cells self.new) ≡ cas_after coded (joined_limits A.Memory.limits B.Memory.limits self.old) (first_cells (joined A.Memory.cells B.Memory.cells self.old)) i old.now new.now }
         ensures kept { joined_limits A.Memory.limits B.Memory.limits self.new ≡ joined_limits A.Memory.limits B.Memory.limits self.old }
         ensures table { joined A.Memory.cells B.Memory.cells self.new ≡ table_swapped result (joined A.Memory.cells B.Memory.cells self.old) i new.now }
         ensures sides { SidesKept A.Memory.cells A.Memory.limits B.Memory.limits self.old self.new }

@@ -1,6 +1,6 @@
 use Rattle.std.proofs.Common.{◌+◌, ◌++◌, string_bytes}
 use Rattle.sheet.specs.Parts.{act_of}
-use Rattle.report.specs.Lines.{operation_front, act-words, line_end}
+use Rattle.report.specs.Lines.{operation_front, act_words, line_end}
 use Rattle.report.proofs.Adding.{adds_after}
 use Rattle.report.proofs.operations.push_operation.Goals as goal
 
@@ -8,7 +8,7 @@ pub returns : goal.returns
 unfolding operation_front line_end
 returns g c =
     let o = c.args.operation.now in
-    let words = act-words g.V.ValueKind.coded (act_of o.action) in
+    let words = act_words g.V.ValueKind.coded (act_of o.action) in
     let first = string_bytes c.write.new.self in
     let second = string_bytes c.push-action.new.out in
     let last = string_bytes c.writeln.new.self in

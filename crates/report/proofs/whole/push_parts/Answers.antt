@@ -3,7 +3,7 @@ use Rattle.sheet.specs.declared.Operation.{Operation}
 use Rattle.sheet.specs.declared.ScriptItem.{ScriptItem}
 use Rattle.sheet.specs.Parts.{op_of}
 use Rattle.report.specs.Lines.{size_line, header_line}
-use Rattle.report.specs.Texts.{Adds, values-text, operations-text, script_text}
+use Rattle.report.specs.Texts.{Adds, values_text, operations_text, script_text}
 use Rattle.report.proofs.Adding.{adds_after}
 use Rattle.report.proofs.whole.push_parts.Goals as goal
 
@@ -16,8 +16,8 @@ returns g c =
     let items = length (vec_items sheet.script) in
     let size = size_line c.args.long in
     let header = header_line kind locations sheet.processes items in
-    let values = values-text code (vec_items sheet.initial) in
-    let operations = operations-text code (map op_of (vec_items sheet.operations)) in
+    let values = values_text code (vec_items sheet.initial) in
+    let operations = operations_text code (map op_of (vec_items sheet.operations)) in
     let script = script_text (vec_items sheet.script) in
     let first = string_bytes c.push-size.new.out in
     let second = string_bytes c.push-header.new.out in
@@ -31,7 +31,7 @@ returns g c =
     ∙ ap (λ (n : ℕ). header_line kind locations sheet.processes n) (c.len-2.ensures ∙ sheet.script.ok.0) in
     adds_after (string_bytes c.args.out.now) first last size (header ++ (values ++ (operations ++ script))) r c.in-ok-push-size.ensures
     (adds_after first second last header (values ++ (operations ++ script)) r (c.in-ok-push-header.ensures ∙ ap (λ (t : List ℕ). first ++ t) counts)
-    (adds_after second third last values (operations ++ script) r (c.in-ok-push-values.ensures ∙ ap (λ (vs : List g.row.V.Denot). second ++ values-text code vs) c.deref.ensures.value)
+    (adds_after second third last values (operations ++ script) r (c.in-ok-push-values.ensures ∙ ap (λ (vs : List g.row.V.Denot). second ++ values_text code vs) c.deref.ensures.value)
     (adds_after third fourth last operations script r
-    (c.in-ok-push-operations.ensures ∙ ap (λ (os : List (Operation g.row.V.Denot)). third ++ operations-text code (map op_of os)) c.deref-2.ensures.value)
+    (c.in-ok-push-operations.ensures ∙ ap (λ (os : List (Operation g.row.V.Denot)). third ++ operations_text code (map op_of os)) c.deref-2.ensures.value)
     (subst (λ (xs : List ScriptItem). Adds r fourth (script_text xs) last) c.deref-3.ensures.value c.push-script.ensures))))

@@ -1,12 +1,12 @@
 use Rattle.std.proofs.Common.{string_bytes}
 use Rattle.sheet.specs.Parts.{parts_of}
 use Rattle.report.specs.Lines.{again_line}
-use Rattle.report.specs.Texts.{parts-text}
+use Rattle.report.specs.Texts.{parts_text}
 use Rattle.report.proofs.Adding.{adds_after}
 use Rattle.report.proofs.whole.push_sheet.Goals as goal
 
 pub returns : goal.returns
 returns g c =
     adds_after (string_bytes c.args.out.now) (string_bytes c.push-parts.new.out) (string_bytes c.push-again.new.out)
-    (parts-text g.V.ValueKind.coded g.V.ValueKind.number c.args.long (parts_of c.args.sheet.now)) (again_line c.args.again.long c.args.again.same)
+    (parts_text g.V.ValueKind.coded g.V.ValueKind.number c.args.long (parts_of c.args.sheet.now)) (again_line c.args.again.long c.args.again.same)
     c.push-again.result c.in-ok-push-parts.ensures c.push-again.ensures

@@ -2,12 +2,12 @@ use Rattle.std.proofs.Common.{◌≡◌, true, false, leb, length, sym, refl, ap
 use Rattle.std.proofs.lemmas.Bool.Decides.{nat_tests}
 use Rattle.sheet_format.proofs.Steps.{pass, stop}
 use Rattle.sheet_format.specs.Faults.{fault}
-use Rattle.sheet_format.specs.Reading.{header-answer, header_by}
+use Rattle.sheet_format.specs.Reading.{header_answer, header_by}
 use Rattle.sheet_format.specs.declared.fault.SheetRefusal.TheVariants.{WrongLength}
 use Rattle.sheet_header.proofs.header.read_header.Goals as goal
 
 pub returns-in-Some : goal.returns-in-Some
-unfolding header-answer
+unfolding header_answer
 returns-in-Some c =
     let long = length c.args.bytes.now in
     let h = c.in-Some.ensures in
@@ -15,7 +15,7 @@ returns-in-Some c =
     c.judge-header.ensures ∙ ap (λ raw. header_by raw long c.args.kind_number) h.1 ∙ sym (pass _ (fault WrongLength long) _ _ enough refl)
 
 pub returns-in-None : goal.returns-in-None
-unfolding header-answer
+unfolding header_answer
 returns-in-None c =
     let h = c.in-None.ensures in
     let short : leb 24 (length c.args.bytes.now) ≡ false = grind (arith, nat_tests) in

@@ -1,7 +1,7 @@
 use Rattle.std.proofs.Common.{vec_items}
 use Rattle.sheet_reader.proofs.Answering.{Kept}
-use Rattle.sheet_reader.proofs.Rows.{script-row}
+use Rattle.sheet_reader.proofs.Rows.{script_row}
 use Rattle.sheet_reader.proofs.read_lists.read_script.Given as goal
 
 abbrev pub invariant-loop-i : goal.invariant-loop-i
-invariant-loop-i l = Kept (script-row l.bytes) l.at l.count l.i (vec_items l.items)
+invariant-loop-i l = Kept (script_row l.bytes) l.at l.count l.i (vec_items l.items)

@@ -1,17 +1,17 @@
 use Rattle.std.proofs.Common.{Ok, sym, ap, ◌∙◌, arith}
 use Rattle.std.proofs.lemmas.Result.{IfOk-from_err}
 use Rattle.sheet_format.specs.Faults.{then}
-use Rattle.sheet_format.specs.Reading.{action-by, action-answer, operation-answer}
+use Rattle.sheet_format.specs.Reading.{action_by, action_answer, operation_answer}
 use Rattle.sheet_reader.proofs.Exits.{exit_fault, exit_error}
 use Rattle.sheet_format.proofs.Counts.{counted_range}
 use Rattle.sheet_format.proofs.WriteOperations.{head_back}
 use Rattle.sheet_reader.proofs.read_operation.read_operation.Goals as goal
 
 pub returns-in-err-head : goal.returns-in-err-head
-unfolding operation-answer
+unfolding operation_answer
 returns-in-err-head g c =
     let refused = sym c.read-head.ensures ∙ c.in-err-head.was in
-    record { answer = exit_fault _ _ c.from-residual.result _ c.from-residual.ensures.1 (ap (λ h. then h (action-answer g.V.ValueKind.decoded c.args.bytes.now c.args.at)) refused); next = IfOk-from_err _ _ c.from-residual.ensures.0 }
+    record { answer = exit_fault _ _ c.from-residual.result _ c.from-residual.ensures.1 (ap (λ h. then h (action_answer g.V.ValueKind.decoded c.args.bytes.now c.args.at)) refused); next = IfOk-from_err _ _ c.from-residual.ensures.0 }
 
 pub read-action-requires : goal.read-action-requires
 read-action-requires g c =
@@ -20,24 +20,24 @@ read-action-requires g c =
     record { some = (counted_range head.kind head.count found.counts).0; inside = omega (arith, found.inside) }
 
 pub returns-in-err-action : goal.returns-in-err-action
-unfolding operation-answer
+unfolding operation_answer
 returns-in-err-action g c =
     let read = sym c.read-head.ensures ∙ c.in-ok-head.was in
     let head = c.in-ok-head.head in
-    let whole = ap (λ h. then h (action-answer g.V.ValueKind.decoded c.args.bytes.now c.args.at)) read in
+    let whole = ap (λ h. then h (action_answer g.V.ValueKind.decoded c.args.bytes.now c.args.at)) read in
     record {
-      answer = exit_error _ _ c.from-residual-in-err-action.result (action-by g.V.ValueKind.decoded c.args.bytes.now c.args.at head.kind head.count) _ c.from-residual-in-err-action.ensures.1 c.in-err-action.ensures
+      answer = exit_error _ _ c.from-residual-in-err-action.result (action_by g.V.ValueKind.decoded c.args.bytes.now c.args.at head.kind head.count) _ c.from-residual-in-err-action.ensures.1 c.in-err-action.ensures
           (λ f e. whole ∙ ap (λ a. then a (λ a. Ok (record { process = head.process; act = a }))) e);
       next = IfOk-from_err _ _ c.from-residual-in-err-action.ensures.0;
     }
 
 pub returns : goal.returns
-unfolding operation-answer
+unfolding operation_answer
 returns g c =
     let read = sym c.read-head.ensures ∙ c.in-ok-head.was in
     let head = c.in-ok-head.head in
     let found = head_back c.args.bytes.now c.args.at c.args.end head read in
-    let whole = ap (λ h. then h (action-answer g.V.ValueKind.decoded c.args.bytes.now c.args.at)) read in
+    let whole = ap (λ h. then h (action_answer g.V.ValueKind.decoded c.args.bytes.now c.args.at)) read in
     record {
       answer = whole ∙ ap (λ a. then a (λ a. Ok (record { process = head.process; act = a }))) c.in-ok-action.ensures;
       next = (omega (arith, found.count_byte), omega (arith, found.inside));

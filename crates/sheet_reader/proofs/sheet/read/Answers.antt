@@ -3,10 +3,10 @@ use Rattle.std.proofs.lemmas.List.{length-map}
 use Rattle.std.proofs.lemmas.Result.{IfOk-from_err}
 use Rattle.std.proofs.lemmas.Bool.Decides.{nat_tests}
 use Rattle.sheet_format.specs.Parts.{op_of}
-use Rattle.sheet_format.specs.Reading.{values-answer, operations-answer, script-answer, starts}
+use Rattle.sheet_format.specs.Reading.{values_answer, operations_answer, script_answer, starts}
 use Rattle.sheet_reader.proofs.Answering.{first_of}
 use Rattle.sheet_reader.proofs.Exits.{exit_fault, exit_error, exit_wants, wants_for, wants_kept}
-use Rattle.sheet_reader.proofs.Rows.{values-row}
+use Rattle.sheet_reader.proofs.Rows.{values_row}
 use Rattle.sheet_reader.proofs.Whole.{header_at, keeps, header_refused, values_refused, operations_refused, script_refused, sheet_judged}
 use Rattle.sheet_format.proofs.Fields.{all_below}
 use Rattle.sheet_format.proofs.Headers.{placed}
@@ -35,7 +35,7 @@ returns-in-err-initial g c =
     let h = c.in-ok-header.header in
     let header = header_at bytes c.kind-number.ensures c.read-header.ensures c.in-ok-header.was in
     record {
-      answer = exit_error _ _ c.from-residual-in-err-initial.result (values-answer g.V.ValueKind.decoded bytes 24 h.locations) _
+      answer = exit_error _ _ c.from-residual-in-err-initial.result (values_answer g.V.ValueKind.decoded bytes 24 h.locations) _
           c.from-residual-in-err-initial.ensures.1 c.in-err-initial.ensures.answer
           (values_refused g.V.ValueKind.decoded bytes g.V.ValueKind.number h header);
       memory = exit_wants c.from-residual-in-err-initial.result _ _ c.from-residual-in-err-initial.ensures.1
@@ -56,12 +56,12 @@ returns-in-err-operations g c =
     let h = c.in-ok-header.header in
     let header = header_at bytes c.kind-number.ensures c.read-header.ensures c.in-ok-header.was in
     record {
-      answer = exit_error _ _ c.from-residual-in-err-operations.result (operations-answer g.V.ValueKind.decoded bytes h.script 4096 h.operations) _
+      answer = exit_error _ _ c.from-residual-in-err-operations.result (operations_answer g.V.ValueKind.decoded bytes h.script 4096 h.operations) _
           c.from-residual-in-err-operations.ensures.1 c.in-err-operations.ensures
           (operations_refused g.V.ValueKind.decoded bytes g.V.ValueKind.number h header _ c.in-ok-initial.ensures.answer);
       memory = exit_wants c.from-residual-in-err-operations.result _ _ c.from-residual-in-err-operations.ensures.1
           (wants_kept _ _ (keeps g.V.ValueKind.decoded bytes g.V.ValueKind.number h header
-          (first_of (values-row g.V.ValueKind.decoded bytes) 24 h.locations _ (placed bytes g.V.ValueKind.number h header).some c.in-ok-initial.ensures.answer)));
+          (first_of (values_row g.V.ValueKind.decoded bytes) 24 h.locations _ (placed bytes g.V.ValueKind.number h header).some c.in-ok-initial.ensures.answer)));
       returns = IfOk-from_err _ _ c.from-residual-in-err-operations.ensures.0;
     }
 
@@ -77,12 +77,12 @@ returns-in-err-script g c =
     let h = c.in-ok-header.header in
     let header = header_at bytes c.kind-number.ensures c.read-header.ensures c.in-ok-header.was in
     record {
-      answer = exit_error _ _ c.from-residual-in-err-script.result (script-answer bytes h.script h.items) _
+      answer = exit_error _ _ c.from-residual-in-err-script.result (script_answer bytes h.script h.items) _
           c.from-residual-in-err-script.ensures.1 c.in-err-script.ensures
           (script_refused g.V.ValueKind.decoded bytes g.V.ValueKind.number h header _ c.in-ok-initial.ensures.answer _ c.in-ok-operations.ensures);
       memory = exit_wants c.from-residual-in-err-script.result _ _ c.from-residual-in-err-script.ensures.1
           (wants_kept _ _ (keeps g.V.ValueKind.decoded bytes g.V.ValueKind.number h header
-          (first_of (values-row g.V.ValueKind.decoded bytes) 24 h.locations _ (placed bytes g.V.ValueKind.number h header).some c.in-ok-initial.ensures.answer)));
+          (first_of (values_row g.V.ValueKind.decoded bytes) 24 h.locations _ (placed bytes g.V.ValueKind.number h header).some c.in-ok-initial.ensures.answer)));
       returns = IfOk-from_err _ _ c.from-residual-in-err-script.ensures.0;
     }
 

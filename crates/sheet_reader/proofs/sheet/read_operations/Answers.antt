@@ -2,7 +2,7 @@ use Rattle.std.proofs.Common.{◌≡◌, ◌+◌, ◌<◌, [], ◌∷◌, map, v
 use Rattle.std.proofs.lemmas.List.{map_push}
 use Rattle.std.proofs.lemmas.Slice.{pushed}
 use Rattle.sheet_format.specs.Parts.{op_of}
-use Rattle.sheet_format.specs.Reading.{operation-answer}
+use Rattle.sheet_format.specs.Reading.{operation_answer}
 use Rattle.sheet_reader.proofs.Exits.{exit_error}
 use Rattle.sheet_reader.proofs.Gathered.{gathered_none, gathered_all, gathered_full, gathered_refused, gathered_more}
 use Rattle.sheet_reader.proofs.sheet.read_operations.Goals as goal
@@ -19,7 +19,7 @@ returns-then-len-eq-MOST-OPERATIONS g c =
 pub returns-in-err-operation : goal.returns-in-err-operation
 returns-in-err-operation g c =
     let some : vec_len c.loop-next.operations < 4096 = let e = c.len.ensures in let b = c.loop-next.invariant.1 in let l = c.if-len-eq-MOST-OPERATIONS.false in grind arith in
-    exit_error _ _ c.from-residual.result (operation-answer g.V.ValueKind.decoded c.args.bytes.now c.args.end c.loop-next.next) _
+    exit_error _ _ c.from-residual.result (operation_answer g.V.ValueKind.decoded c.args.bytes.now c.args.end c.loop-next.next) _
     c.from-residual.ensures.1 c.in-err-operation.ensures.answer
     (gathered_refused g.V.ValueKind.decoded c.args.bytes.now c.args.end 4096 c.args.at _ _ _ c.loop-next.invariant.2 some c.loop-next-test.true)
 

@@ -2,7 +2,7 @@ use Rattle.std.proofs.Common.{◌≡◌, ◌≤◌, length, take, Ok, Err, vec_i
 use Rattle.std.proofs.lemmas.Result.{err_from_is_err_and, IfOk-from_err}
 use Rattle.sheet_format.specs.declared.fault.SheetRefusal.TheVariants.{ShortOutput}
 use Rattle.sheet_format.specs.Faults.{fault}
-use Rattle.sheet_format.specs.Format.{sheet-bytes}
+use Rattle.sheet_format.specs.Format.{sheet_bytes}
 use Rattle.sheet_format.specs.Parts.{parts_of}
 use Rattle.sheet_format.specs.Reading.{read_answer}
 use Rattle.sheet_format.proofs.Sizes.{sheet_length}
@@ -57,9 +57,9 @@ returns g c =
     let fits = write_fits p (length out) end laid c.if-out-end.false in
     let long = sheet_length g.V.ValueKind.coded g.V.ValueKind.number p in
     let is-end : c.put-sheet.result ≡ end = omega (arith, c.put-sheet.ensures.puts.ends, long, laid_total p end laid) in
-    let room : length (sheet-bytes g.V.ValueKind.coded g.V.ValueKind.number p) ≤ length out = omega (arith, long, laid_total p end laid) in
+    let room : length (sheet_bytes g.V.ValueKind.coded g.V.ValueKind.number p) ≤ length out = omega (arith, long, laid_total p end laid) in
     let answer = ap Ok is-end ∙ sym fits in
-    let after = c.put-sheet.ensures.puts.leaves ∙ put_over (sheet-bytes g.V.ValueKind.coded g.V.ValueKind.number p) out room ∙ sym (after_fits p g.V.ValueKind.coded g.V.ValueKind.number out end fits) in
+    let after = c.put-sheet.ensures.puts.leaves ∙ put_over (sheet_bytes g.V.ValueKind.coded g.V.ValueKind.number p) out room ∙ sym (after_fits p g.V.ValueKind.coded g.V.ValueKind.number out end fits) in
     let back = write_then_read g.V.ValueKind.coded g.V.ValueKind.decoded g.V.ValueKind.number g.met.V.ValueKind.returned (λ v. omega (arith, g.met.V.ValueKind.bounded v, g.met.V.ValueKind.capped)) p out in
     record {
       answer = answer;
