@@ -5,7 +5,8 @@ usage: python3 tools/spell_names.py [--check]     at the top of the repository, 
 
 A definition, a lemma, a field or a constructor whose name has a dash gets underscores, as link-code: link_code.
 A type or a fact, whose name begins with a capital, gets upper camel case, as Kcss-yes: KcssYes.
-What Rattle makes keeps its name: a goal that an answer is declared at, and the first word behind goal, c, w, l and g.
+What Rattle makes keeps its name: a goal that an answer is declared at, and in answers and invariants the first word behind
+goal, c, w, l and g.
 A name that would then be that of a function in a file of src/ that cites it gets _lem behind it.
 Functions of src/, exported names, strings, inputs and outputs stay. --check writes nothing and lists the names.
 It stops, and writes nothing, where a new name would meet another one in some file.
@@ -83,6 +84,7 @@ def turned(path, text, names, goals):
     if path.endswith(".md"):
         spans = [(m.start(), m.end()) for m in re.finditer(r"`[^`\n]+`", text)]
     quiet = sorted(at.items())
+    answers = os.path.basename(path) in ("Answers.antt", "Invariants.antt", "Choices.antt")
     out, last, met = [], 0, set()
     for m in WORD.finditer(text):
         w = m.group()
@@ -92,7 +94,7 @@ def turned(path, text, names, goals):
             continue
         head = re.search(r"([^\s(){}\[\].;,@\"«»`]+)\.$", text[max(0, m.start() - 40) : m.start()])
         before = text[max(0, m.start() - 60) : m.start()]
-        if head and head.group(1) in HEADS and not before[: -len(head.group(0))].endswith("."):
+        if answers and head and head.group(1) in HEADS and not before[: -len(head.group(0))].endswith("."):
             continue
         if w in goals.get(path, ()):
             continue

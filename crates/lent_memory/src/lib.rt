@@ -35,8 +35,8 @@ impl<'a, V: ValueKind, M: Memory<V>> Memory<V> for Lent<'a, M> {
 
     // Beyond the interface, it stays the memory that was lent, so its owner gets it back as the Store left it.
     fn store(&mut self, i: usize, cell: &Cell<V>) -> Result<(), MemoryFault>
-        ensures answer { result ≡ store_answer coded (M.Memory.limits self.old.memory.now) (M.Memory.cells self.old.memory.now) i cell.now }
-        ensures after { M.Memory.cells self.new.memory.now ≡ store_after coded (M.Memory.limits self.old.memory.now) (M.Memory.cells self.old.memory.now) i cell.now }
+        ensures answer { result ≡ store_answer V.coded (M.Memory.limits self.old.memory.now) (M.Memory.cells self.old.memory.now) i cell.now }
+        ensures after { M.Memory.cells self.new.memory.now ≡ store_after V.coded (M.Memory.limits self.old.memory.now) (M.Memory.cells self.old.memory.now) i cell.now }
         ensures kept { M.Memory.limits self.new.memory.now ≡ M.Memory.limits self.old.memory.now }
         ensures lender { self.new.memory.ghost_name ≡ self.old.memory.ghost_name }
     {
@@ -44,8 +44,8 @@ impl<'a, V: ValueKind, M: Memory<V>> Memory<V> for Lent<'a, M> {
     }
 
     fn cas(&mut self, i: usize, old: &Cell<V>, new: &Cell<V>) -> Result<bool, MemoryFault>
-        ensures answer { result ≡ cas_answer coded (M.Memory.limits self.old.memory.now) (M.Memory.cells self.old.memory.now) i old.now new.now }
-        ensures after { M.Memory.cells self.new.memory.now ≡ cas_after coded (M.Memory.limits self.old.memory.now) (M.Memory.cells self.old.memory.now) i old.now new.now }
+        ensures answer { result ≡ cas_answer V.coded (M.Memory.limits self.old.memory.now) (M.Memory.cells self.old.memory.now) i old.now new.now }
+        ensures after { M.Memory.cells self.new.memory.now ≡ cas_after V.coded (M.Memory.limits self.old.memory.now) (M.Memory.cells self.old.memory.now) i old.now new.now }
         ensures kept { M.Memory.limits self.new.memory.now ≡ M.Memory.limits self.old.memory.now }
         ensures lender { self.new.memory.ghost_name ≡ self.old.memory.ghost_name }
     {

@@ -13,10 +13,10 @@ pub fn store_and_load<V: ValueKind, M: Memory<V>>(
     i: usize,
     cell: &Cell<V>,
 ) -> Result<Cell<V>, MemoryFault>
-    ensures answer { result ≡ stored_answer (store_answer coded (limits memory.old) (cells memory.old) i cell.now) cell.now }
-    ensures after { cells memory.new ≡ store_after coded (limits memory.old) (cells memory.old) i cell.now }
-    ensures kept { limits memory.new ≡ limits memory.old }
-    ensures law { StoreLaw result (cells memory.old) (cells memory.new) i cell.now }
+    ensures answer { result ≡ stored_answer (store_answer V.coded (M.limits memory.old) (M.cells memory.old) i cell.now) cell.now }
+    ensures after { M.cells memory.new ≡ store_after V.coded (M.limits memory.old) (M.cells memory.old) i cell.now }
+    ensures kept { M.limits memory.new ≡ M.limits memory.old }
+    ensures law { StoreLaw result (M.cells memory.old) (M.cells memory.new) i cell.now }
 {
     memory.store(i, cell)?;
     memory.load(i)
@@ -29,10 +29,10 @@ pub fn cas_and_load<V: ValueKind, M: Memory<V>>(
     old: &Cell<V>,
     new: &Cell<V>,
 ) -> Result<(bool, Cell<V>), MemoryFault>
-    ensures answer { result ≡ swapped_answer (cas_answer coded (limits memory.old) (cells memory.old) i old.now new.now) (cell_at (cells memory.old) i) new.now }
-    ensures after { cells memory.new ≡ cas_after coded (limits memory.old) (cells memory.old) i old.now new.now }
-    ensures kept { limits memory.new ≡ limits memory.old }
-    ensures law { CasLaw result (cells memory.old) (cells memory.new) i old.now new.now }
+    ensures answer { result ≡ swapped_answer (cas_answer V.coded (M.limits memory.old) (M.cells memory.old) i old.now new.now) (cell_at (M.cells memory.old) i) new.now }
+    ensures after { M.cells memory.new ≡ cas_after V.coded (M.limits memory.old) (M.cells memory.old) i old.now new.now }
+    ensures kept { M.limits memory.new ≡ M.limits memory.old }
+    ensures law { CasLaw result (M.cells memory.old) (M.cells memory.new) i old.now new.now }
 {
     let swapped = memory.cas(i, old, new)?;
     let found = memory.load(i)?;

@@ -36,8 +36,8 @@ impl<V: ValueKind, M: Memory<V>> Memory<V> for Narrow<M> {
 
     // Beyond the interface, the limits of its own stay, and so do those of the memory below.
     fn store(&mut self, i: usize, cell: &Cell<V>) -> Result<(), MemoryFault>
-        ensures answer { result ≡ store_answer coded (smaller_limits (M.Memory.limits self.old.below) self.old.own) (M.Memory.cells self.old.below) i cell.now }
-        ensures after { M.Memory.cells self.new.below ≡ store_after coded (smaller_limits (M.Memory.limits self.old.below) self.old.own) (M.Memory.cells self.old.below) i cell.now }
+        ensures answer { result ≡ store_answer V.coded (smaller_limits (M.Memory.limits self.old.below) self.old.own) (M.Memory.cells self.old.below) i cell.now }
+        ensures after { M.Memory.cells self.new.below ≡ store_after V.coded (smaller_limits (M.Memory.limits self.old.below) self.old.own) (M.Memory.cells self.old.below) i cell.now }
         ensures kept { smaller_limits (M.Memory.limits self.new.below) self.new.own ≡ smaller_limits (M.Memory.limits self.old.below) self.old.own }
         ensures own { self.new.own ≡ self.old.own }
         ensures below { M.Memory.limits self.new.below ≡ M.Memory.limits self.old.below }
@@ -47,8 +47,8 @@ impl<V: ValueKind, M: Memory<V>> Memory<V> for Narrow<M> {
     }
 
     fn cas(&mut self, i: usize, old: &Cell<V>, new: &Cell<V>) -> Result<bool, MemoryFault>
-        ensures answer { result ≡ cas_answer coded (smaller_limits (M.Memory.limits self.old.below) self.old.own) (M.Memory.cells self.old.below) i old.now new.now }
-        ensures after { M.Memory.cells self.new.below ≡ cas_after coded (smaller_limits (M.Memory.limits self.old.below) self.old.own) (M.Memory.cells self.old.below) i old.now new.now }
+        ensures answer { result ≡ cas_answer V.coded (smaller_limits (M.Memory.limits self.old.below) self.old.own) (M.Memory.cells self.old.below) i old.now new.now }
+        ensures after { M.Memory.cells self.new.below ≡ cas_after V.coded (smaller_limits (M.Memory.limits self.old.below) self.old.own) (M.Memory.cells self.old.below) i old.now new.now }
         ensures kept { smaller_limits (M.Memory.limits self.new.below) self.new.own ≡ smaller_limits (M.Memory.limits self.old.below) self.old.own }
         ensures own { self.new.own ≡ self.old.own }
         ensures below { M.Memory.limits self.new.below ≡ M.Memory.limits self.old.below }

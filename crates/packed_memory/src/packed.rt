@@ -17,11 +17,11 @@ pub struct PackedMemory<'a, V: 'a> {
 }
 
 impl<'a, V: ValueKind> Memory<V> for PackedMemory<'a, V> {
-    ghost cells = { λ m. cells_of decoded m.words.now };
+    ghost cells = { λ m. cells_of V.decoded m.words.now };
 
-    ghost limits = { λ m. open_limits_lem greatest };
+    ghost limits = { λ m. open_limits_lem V.greatest };
 
-    ghost few = { λ m. first_few (map (cell_of decoded) m.words.now) };
+    ghost few = { λ m. first_few (map (cell_of V.decoded) m.words.now) };
 
     fn len(&self) -> usize {
         counted_cells(self.words.len())
@@ -40,10 +40,10 @@ impl<'a, V: ValueKind> Memory<V> for PackedMemory<'a, V> {
 
     // Beyond the interface, exactly one word is written, the word of the cell, and it is one of the caller's table.
     fn store(&mut self, i: usize, cell: &Cell<V>) -> Result<(), MemoryFault>
-        ensures answer { result ≡ store_answer coded (open_limits_lem greatest) (cells_of decoded self.old.words.now) i cell.now }
-        ensures after { cells_of decoded self.new.words.now ≡ store_after coded (open_limits_lem greatest) (cells_of decoded self.old.words.now) i cell.now }
-        ensures kept { open_limits_lem greatest ≡ open_limits_lem greatest }
-        ensures words { self.new.words.now ≡ table_stored result self.old.words.now i (word_of coded cell.now) }
+        ensures answer { result ≡ store_answer V.coded (open_limits_lem V.greatest) (cells_of V.decoded self.old.words.now) i cell.now }
+        ensures after { cells_of V.decoded self.new.words.now ≡ store_after V.coded (open_limits_lem V.greatest) (cells_of V.decoded self.old.words.now) i cell.now }
+        ensures kept { open_limits_lem V.greatest ≡ open_limits_lem V.greatest }
+        ensures words { self.new.words.now ≡ table_stored result self.old.words.now i (word_of V.coded cell.now) }
         ensures lender { self.new.words.ghost_name ≡ self.old.words.ghost_name }
     {
         if i >= counted_cells(self.words.len()) {
@@ -58,10 +58,10 @@ impl<'a, V: ValueKind> Memory<V> for PackedMemory<'a, V> {
 
     // Beyond the interface, a yes writes exactly one word of the caller's table, and nothing else changes any.
     fn cas(&mut self, i: usize, old: &Cell<V>, new: &Cell<V>) -> Result<bool, MemoryFault>
-        ensures answer { result ≡ cas_answer coded (open_limits_lem greatest) (cells_of decoded self.old.words.now) i old.now new.now }
-        ensures after { cells_of decoded self.new.words.now ≡ cas_after coded (open_limits_lem greatest) (cells_of decoded self.old.words.now) i old.now new.now }
-        ensures kept { open_limits_lem greatest ≡ open_limits_lem greatest }
-        ensures words { self.new.words.now ≡ table_swapped result self.old.words.now i (word_of coded new.now) }
+        ensures answer { result ≡ cas_answer V.coded (open_limits_lem V.greatest) (cells_of V.decoded self.old.words.now) i old.now new.now }
+        ensures after { cells_of V.decoded self.new.words.now ≡ cas_after V.coded (open_limits_lem V.greatest) (cells_of V.decoded self.old.words.now) i old.now new.now }
+        ensures kept { open_limits_lem V.greatest ≡ open_limits_lem V.greatest }
+        ensures words { self.new.words.now ≡ table_swapped result self.old.words.now i (word_of V.coded new.now) }
         ensures lender { self.new.words.ghost_name ≡ self.old.words.ghost_name }
     {
         if i >= counted_cells(self.words.len()) {

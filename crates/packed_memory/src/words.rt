@@ -8,7 +8,7 @@ use value::ValueKind;
 
 // The cell that a word stands for. An even word whose code gives no value stands for id (0, 0).
 pub fn unpack<V: ValueKind>(word: u64) -> Cell<V>
-    ensures { result ≡ cell_of decoded word }
+    ensures { result ≡ cell_of V.decoded word }
 {
     if word % 2 == 1 {
         return Cell::Id(TaggedId {
@@ -24,8 +24,8 @@ pub fn unpack<V: ValueKind>(word: u64) -> Cell<V>
 
 // The word of a cell, if the cell fits.
 pub fn pack<V: ValueKind>(cell: &Cell<V>) -> Option<u64>
-    ensures answer { result ≡ packed coded greatest cell.now }
-    ensures lossless { LosesNothing coded decoded greatest }
+    ensures answer { result ≡ packed V.coded V.greatest cell.now }
+    ensures lossless { LosesNothing V.coded V.decoded V.greatest }
 {
     if !cell_fits(open_limits::<V>(), cell) {
         return None;

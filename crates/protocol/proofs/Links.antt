@@ -65,7 +65,7 @@ module _ {V : Type 0} (H : History V) (ended : List (Finished V)) (C : Certified
 
   module _ (o : Finished V) (a : ℕ) (new : V) (d : Sets ended o a new) (c : ScShown H ended o a new true) where
     abbrev L : ItsLl H ended o a
-    L = c.its-ll
+    L = c.its_ll
 
     -- from its LL on its mark stands
     stood : (u : ℕ) → L.linking.effect < u → u ≤ o.effect → (W u).val a ≡ own_id (W o.effect) o.process
@@ -73,7 +73,7 @@ module _ {V : Type 0} (H : History V) (ended : List (Finished V)) (C : Certified
         let p = o.process in
         let s = suc L.linking.effect in
         let n : (W s).val a ≡ own_id (W o.effect) p = (mark_does H L.linking.effect p a L.value L.marked).0 ∙ ap (id_cell p) L.same_tag in
-        stood_since H s o.effect a p ((W o.effect).tag p) (put_of H s a p ((W o.effect).tag p) n) (commit_can H o.effect p a new c.its-cas).1 u h k
+        stood_since H s o.effect a p ((W o.effect).tag p) (put_of H s a p ((W o.effect).tag p) n) (commit_can H o.effect p a new c.its_cas).1 u h k
 
     -- no other yes at a takes effect meanwhile
     no_yes : (x : Finished V) (v : V) → Sets ended x a v → L.linking.effect < x.effect → x.effect < o.effect → ⊥

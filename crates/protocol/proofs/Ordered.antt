@@ -121,8 +121,8 @@ module _ {V : Type 0} (H : History V) (ended : List (Finished V)) (C : Certified
   failed o a v m e f =
       let s : Shown H ended o (sc a v) o.answer = subst (λ r. Shown H ended o r o.answer) e (C.each o m).shown in
       let c : ScShown H ended o a v false = subst (Shown H ended o (sc a v)) f s in
-      let i = c.its-ll in
-      let r = was_reset H i.linking.effect o.effect o.process a i.value i.before i.marked c.its-cas i.same_tag in
+      let i = c.its_ll in
+      let r = was_reset H i.linking.effect o.effect o.process a i.value i.before i.marked c.its_cas i.same_tag in
       record { its_ll = i; step = r.step; by_process = r.by_process; value = r.value; after_mark = r.after_mark; before_end = r.before_end; resets = r.resets; its_mark = r.its_mark }
 
 pub order : {V : Type 0} → OrderLaw V

@@ -77,7 +77,7 @@ module _ {V : Type 0} (R : Run V) (n : ℕ) (Z : Paused R n) where
   shown t b f (ll a) (values l) h e c = c.0
   shown t b f (ll a) (said y) h e c = absurd c
   shown t b f (sc a u) (values l) h e c = absurd c
-  shown t b f (sc a u) (said y) h e c = record { at_once = sym c.now; its_cas = ap R.event c.now ∙ c.its-cas; its_ll = its_ll t b f a u y h e c }
+  shown t b f (sc a u) (said y) h e c = record { at_once = sym c.now; its_cas = ap R.event c.now ∙ c.its_cas; its_ll = its_ll t b f a u y h e c }
   shown t b f (snapshot ls) (values l) h e c = c
   shown t b f (snapshot ls) (said y) h e c = absurd c
   shown t b f (kcss x o u) (values l) h e c = absurd c

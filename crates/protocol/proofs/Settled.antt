@@ -135,11 +135,11 @@ module _ {V : Type 0} (H : History V) (ended : List (Finished V)) (C : Certified
               let x : u ≡ (S t).value a = stands_once H t a u ((S t).value a) (inr (p, (W t).tag p, (commit_can H t p a u c).1, r)) q.stands in
               inl ((commit_does H t p a u c).0 ∙ ap Value x)
           by_owner p u c (inr w) = absurd (
-              let h = in_time H ended C w.done w.is-listed in
+              let h = in_time H ended C w.done w.is_listed in
               let k = w.ends_there in
               elim (ℕ_discrete w.done.effect t) [
-                | yes i ↦ no-set w.done u (w.is-listed, w.sets) i
-                | no i ↦ q.none_open w.done u (w.is-listed, w.sets) (omega arith) (omega arith)
+                | yes i ↦ no-set w.done u (w.is_listed, w.sets) i
+                | no i ↦ q.none_open w.done u (w.is_listed, w.sets) (omega arith) (omega arith)
               ])
 
           still : Stands (W (suc t)) a ((S t).value a) ⊎ ((p : ℕ) × (u : V) × (H.event t ≡ commit p a u)) → Stands (W (suc t)) a ((S t).value a)
@@ -177,7 +177,7 @@ module _ {V : Type 0} (H : History V) (ended : List (Finished V)) (C : Certified
           clash (cc (k.stands, d.3))
 
   pub seen_told : (t a : ℕ) (v : V) → Seen H t a v → (S t).value a ≡ v
-  seen_told t a v c = told t a v (same_tid_calm H c.tid-look c.value-look t c.tid-look-again a v c.tid-first c.value-next c.tid-last c.found c.same-tid)
+  seen_told t a v c = told t a v (same_tid_calm H c.tid_look c.value_look t c.tid_look_again a v c.tid_first c.value_next c.tid_last c.found c.same_tid)
 
   -- the value that an armed yes saved is what the store has at its effect
   pub saved_told : (o : Finished V) (a : ℕ) (new v : V) → Sets ended o a new → (W o.effect).saved o.process ≡ Value v → (S o.effect).value a ≡ v

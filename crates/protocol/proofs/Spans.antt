@@ -36,7 +36,7 @@ spans_of H ended o a new (sc b u) (said true) c e =
     let x : b ≡ a = cc in
     let y : u ≡ new = cc in
     let z : o.last ≡ o.effect = c.at_once in
-    let k : H.event o.effect ≡ commit o.process a new = c.its-cas ∙ (cc) in
+    let k : H.event o.effect ≡ commit o.process a new = c.its_cas ∙ (cc) in
     let j : H.event o.last ≡ commit o.process a new = ap H.event z ∙ k in
     record { commits = j; noted = (commit_can H o.effect o.process a new k).0; same_tag = ap (λ t. (H.at t).tag o.process) (sym z) }
 spans_of H ended o a new (sc b u) (said false) c e = clash (cc)

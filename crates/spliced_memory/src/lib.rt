@@ -46,8 +46,8 @@ impl<V: ValueKind, A: Memory<V>, B: Memory<V>> Memory<V> for Spliced<A, B> {
     // Beyond the interface, no other cell of the two memories changes, be it past the first 65,535, and each keeps its
     // length and its limits.
     fn store(&mut self, i: usize, cell: &Cell<V>) -> Result<(), MemoryFault>
-        ensures answer { result ≡ store_answer coded (joined_limits A.Memory.limits B.Memory.limits self.old) (first_cells (joined A.Memory.cells B.Memory.cells self.old)) i cell.now }
-        ensures after { first_cells (joined A.Memory.cells B.Memory.cells self.new) ≡ store_after coded (joined_limits A.Memory.limits B.Memory.limits self.old) (first_cells (joined A.Memory.cells B.Memory.cells self.old)) i cell.now }
+        ensures answer { result ≡ store_answer V.coded (joined_limits A.Memory.limits B.Memory.limits self.old) (first_cells (joined A.Memory.cells B.Memory.cells self.old)) i cell.now }
+        ensures after { first_cells (joined A.Memory.cells B.Memory.cells self.new) ≡ store_after V.coded (joined_limits A.Memory.limits B.Memory.limits self.old) (first_cells (joined A.Memory.cells B.Memory.cells self.old)) i cell.now }
         ensures kept { joined_limits A.Memory.limits B.Memory.limits self.new ≡ joined_limits A.Memory.limits B.Memory.limits self.old }
         ensures table { joined A.Memory.cells B.Memory.cells self.new ≡ table_stored result (joined A.Memory.cells B.Memory.cells self.old) i cell.now }
         ensures sides { SidesKept A.Memory.cells A.Memory.limits B.Memory.limits self.old self.new }
@@ -62,8 +62,8 @@ impl<V: ValueKind, A: Memory<V>, B: Memory<V>> Memory<V> for Spliced<A, B> {
     }
 
     fn cas(&mut self, i: usize, old: &Cell<V>, new: &Cell<V>) -> Result<bool, MemoryFault>
-        ensures answer { result ≡ cas_answer coded (joined_limits A.Memory.limits B.Memory.limits self.old) (first_cells (joined A.Memory.cells B.Memory.cells self.old)) i old.now new.now }
-        ensures after { first_cells (joined A.Memory.cells B.Memory.cells self.new) ≡ cas_after coded (joined_limits A.Memory.limits B.Memory.limits self.old) (first_cells (joined A.Memory.cells B.Memory.cells self.old)) i old.now new.now }
+        ensures answer { result ≡ cas_answer V.coded (joined_limits A.Memory.limits B.Memory.limits self.old) (first_cells (joined A.Memory.cells B.Memory.cells self.old)) i old.now new.now }
+        ensures after { first_cells (joined A.Memory.cells B.Memory.cells self.new) ≡ cas_after V.coded (joined_limits A.Memory.limits B.Memory.limits self.old) (first_cells (joined A.Memory.cells B.Memory.cells self.old)) i old.now new.now }
         ensures kept { joined_limits A.Memory.limits B.Memory.limits self.new ≡ joined_limits A.Memory.limits B.Memory.limits self.old }
         ensures table { joined A.Memory.cells B.Memory.cells self.new ≡ table_swapped result (joined A.Memory.cells B.Memory.cells self.old) i new.now }
         ensures sides { SidesKept A.Memory.cells A.Memory.limits B.Memory.limits self.old self.new }

@@ -4,8 +4,8 @@ use Rattle.packed_memory.specs.Words.{word_of}
 use Rattle.packed_memory.proofs.Packing.{packed_yes, packed_no, loses_nothing}
 use Rattle.packed_memory.proofs.words.pack.Goals as goal
 
-pub returns-then-not-cell-fits : goal.returns-then-not-cell-fits
-returns-then-not-cell-fits g c =
+pub returns-then-not-cell_fits : goal.returns-then-not-cell_fits
+returns-then-not-cell_fits g c =
     let v = g.V.ValueKind in
     let f : fitting v.coded (open_limits_lem v.greatest) c.args.cell.now ≡ false = cc in
     record { answer = packed_no v.coded v.greatest c.args.cell.now f; lossless = loses_nothing v.coded v.decoded v.greatest g.met.V.ValueKind.returned g.met.V.ValueKind.capped }

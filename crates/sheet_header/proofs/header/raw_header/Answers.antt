@@ -27,9 +27,9 @@ pub returns : goal.returns
 returns c =
     let bytes = c.args.bytes.now in
     let long = ap length (take_rest bytes 8) ∙ length-drop 8 bytes in
-    let locations = c.from-le-bytes.ensures ∙ sym (field_two bytes 2) in
-    let processes = c.from-le-bytes-2.ensures ∙ sym (field_two bytes 4) in
-    let items = c.from-le-bytes-3.ensures ∙ sym (field_two bytes 6) in
+    let locations = c.from_le_bytes.ensures ∙ sym (field_two bytes 2) in
+    let processes = c.from_le_bytes-2.ensures ∙ sym (field_two bytes 4) in
+    let items = c.from_le_bytes-3.ensures ∙ sym (field_two bytes 6) in
     let values = field_past bytes 0 c.from-le-bytes-4.result c.from-le-bytes-4.ensures in
     let operations = field_past bytes 4 c.from-le-bytes-5.result c.from-le-bytes-5.ensures in
     let script = field_past bytes 8 c.from-le-bytes-6.result c.from-le-bytes-6.ensures in

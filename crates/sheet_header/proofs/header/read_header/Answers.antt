@@ -12,7 +12,7 @@ returns-in-Some c =
     let long = length c.args.bytes.now in
     let h = c.in-Some.ensures in
     let enough : leb 24 long ≡ true = grind (arith, nat_tests) in
-    c.judge-header.ensures ∙ ap (λ raw. header_by raw long c.args.kind_number) h.1 ∙ sym (pass _ (fault WrongLength long) _ _ enough refl)
+    c.judge_header.ensures ∙ ap (λ raw. header_by raw long c.args.kind_number) h.1 ∙ sym (pass _ (fault WrongLength long) _ _ enough refl)
 
 pub returns-in-None : goal.returns-in-None
 unfolding header_answer

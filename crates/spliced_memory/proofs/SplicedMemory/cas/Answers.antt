@@ -12,7 +12,7 @@ returns-then-i-split g c =
     let ys = g.B.Memory.cells c.args.self.now.back in
     let l = g.A.Memory.limits c.args.self.now.front in
     let m = g.B.Memory.limits c.args.self.now.back in
-    let p = passed_table v.coded (smaller_limits l m) (xs ++ ys) c.args.i c.args.new.now c.in-ok-admit-change.ensures c.limits.ensures (omega (arith, spliced_length xs ys)) in
+    let p = passed_table v.coded (smaller_limits l m) (xs ++ ys) c.args.i c.args.new.now c.in_ok-admit_change.ensures c.limits.ensures (omega (arith, spliced_length xs ys)) in
     let e = c.cas.ensures in
     let s = cas_front xs ys c.args.i p.inside v.coded l m c.args.new.now p.fit c.args.old.now (omega arith) e.answer e.after in
     record { answer = s.answer; after = s.after; kept = ap (λ k. smaller_limits k m) e.kept; table = s.whole; sides = record { split = cas_length v.coded l xs c.args.i c.args.new.now c.args.old.now e.after; front_kept = e.kept; back_kept = refl {a = m} } }
@@ -24,7 +24,7 @@ returns-else-i-split g c =
     let ys = g.B.Memory.cells c.args.self.now.back in
     let l = g.A.Memory.limits c.args.self.now.front in
     let m = g.B.Memory.limits c.args.self.now.back in
-    let p = passed_table v.coded (smaller_limits l m) (xs ++ ys) c.args.i c.args.new.now c.in-ok-admit-change.ensures c.limits.ensures (omega (arith, spliced_length xs ys)) in
+    let p = passed_table v.coded (smaller_limits l m) (xs ++ ys) c.args.i c.args.new.now c.in_ok-admit_change.ensures c.limits.ensures (omega (arith, spliced_length xs ys)) in
     let e = c.cas-else-i-split.ensures in
     let s = cas_back xs ys c.args.i p.inside v.coded l m c.args.new.now p.fit c.args.old.now c.len-split.result c.len-split.ensures (omega arith) e.answer e.after in
     record { answer = s.answer; after = s.after; kept = ap (λ k. smaller_limits l k) e.kept; table = s.whole; sides = record { split = refl {a = length xs}; front_kept = refl {a = l}; back_kept = e.kept } }

@@ -6,18 +6,18 @@ use Rattle.memory.proofs.Admitting.{cas_yes, cas_no, cas_outside, cas_unfit}
 use Rattle.packed_memory.proofs.Packing.{packed_some, packed_none, words_length, words_get, words_set}
 use Rattle.packed_memory.proofs.packed.PackedMemoryMemory.cas.Goals as goal
 
-pub returns-then-i-counted-cells : goal.returns-then-i-counted-cells
-returns-then-i-counted-cells g c =
+pub returns-then-i-counted_cells : goal.returns-then-i-counted_cells
+returns-then-i-counted_cells g c =
     let v = g.V.ValueKind in
     let ws = c.args.self.now.words.now in
     let n = cas_outside v.coded (open_limits_lem v.greatest) (cells_of v.decoded ws) c.args.i c.args.new.now c.args.old.now (omega (arith, words_length v.decoded ws)) in
-    record { answer = ap Err c.no-cell.ensures ∙ sym n.0; after = sym n.1; kept = refl {a = open_limits_lem v.greatest}; words = refl {a = ws}; lender = refl {a = c.args.self.now.words.ghost_name} }
+    record { answer = ap Err c.no_cell.ensures ∙ sym n.0; after = sym n.1; kept = refl {a = open_limits_lem v.greatest}; words = refl {a = ws}; lender = refl {a = c.args.self.now.words.ghost_name} }
 
-pub returns-in-default : goal.returns-in-default
-returns-in-default g c =
+pub returns-in_default : goal.returns-in_default
+returns-in_default g c =
     let v = g.V.ValueKind in
     let ws = c.args.self.now.words.now in
-    let f = packed_none v.coded v.greatest c.args.new.now c.in-default.ensures.answer in
+    let f = packed_none v.coded v.greatest c.args.new.now c.in_default.ensures.answer in
     let n = cas_unfit v.coded (open_limits_lem v.greatest) (cells_of v.decoded ws) c.args.i c.args.new.now c.args.old.now (omega (arith, words_length v.decoded ws)) f in
     record { answer = ap Err c.unfit.ensures ∙ sym n.0; after = sym n.1; kept = refl {a = open_limits_lem v.greatest}; words = refl {a = ws}; lender = refl {a = c.args.self.now.words.ghost_name} }
 
@@ -28,7 +28,7 @@ returns-then-not-same g c =
     let i = c.args.i in
     let new = c.args.new.now in
     let old = c.args.old.now in
-    let p = packed_some v.coded v.greatest new c.in-Some.new_IsWord c.in-Some.ensures.answer in
+    let p = packed_some v.coded v.greatest new c.in-Some.new_word c.in-Some.ensures.answer in
     let e = words_get v.decoded ws i (omega arith) in
     let s : same v.coded c.unpack-found.result old ≡ false = search rules in
     let y = cas_no v.coded (open_limits_lem v.greatest) (cells_of v.decoded ws) i new (omega (arith, words_length v.decoded ws)) p.0 old (ap (λ x. same v.coded x old) (e ∙ sym c.unpack-found.ensures) ∙ s) in
@@ -41,7 +41,7 @@ returns g c =
     let i = c.args.i in
     let new = c.args.new.now in
     let old = c.args.old.now in
-    let p = packed_some v.coded v.greatest new c.in-Some.new_IsWord c.in-Some.ensures.answer in
+    let p = packed_some v.coded v.greatest new c.in-Some.new_word c.in-Some.ensures.answer in
     let e = words_get v.decoded ws i (omega arith) in
     let t : same v.coded c.unpack-found.result old ≡ true = search rules in
     let y = cas_yes v.coded (open_limits_lem v.greatest) (cells_of v.decoded ws) i new (omega (arith, words_length v.decoded ws)) p.0 old (ap (λ x. same v.coded x old) (e ∙ sym c.unpack-found.ensures) ∙ t) in

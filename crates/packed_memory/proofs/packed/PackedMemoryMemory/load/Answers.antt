@@ -4,11 +4,11 @@ use Rattle.memory.proofs.Admitting.{load_yes, load_no}
 use Rattle.packed_memory.proofs.Packing.{words_length, words_get}
 use Rattle.packed_memory.proofs.packed.PackedMemoryMemory.load.Goals as goal
 
-pub returns-then-i-counted-cells : goal.returns-then-i-counted-cells
-returns-then-i-counted-cells g c =
+pub returns-then-i-counted_cells : goal.returns-then-i-counted_cells
+returns-then-i-counted_cells g c =
     let d = g.V.ValueKind.decoded in
     let ws = c.args.self.now.words.now in
-    ap Err c.no-cell.ensures ∙ sym (load_no (cells_of d ws) c.args.i (omega (arith, words_length d ws)))
+    ap Err c.no_cell.ensures ∙ sym (load_no (cells_of d ws) c.args.i (omega (arith, words_length d ws)))
 
 pub returns : goal.returns
 returns g c =

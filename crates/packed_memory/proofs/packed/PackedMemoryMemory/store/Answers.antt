@@ -5,18 +5,18 @@ use Rattle.memory.proofs.Admitting.{store_yes, store_outside, store_unfit}
 use Rattle.packed_memory.proofs.Packing.{packed_some, packed_none, words_length, words_set}
 use Rattle.packed_memory.proofs.packed.PackedMemoryMemory.store.Goals as goal
 
-pub returns-then-i-counted-cells : goal.returns-then-i-counted-cells
-returns-then-i-counted-cells g c =
+pub returns-then-i-counted_cells : goal.returns-then-i-counted_cells
+returns-then-i-counted_cells g c =
     let v = g.V.ValueKind in
     let ws = c.args.self.now.words.now in
     let n = store_outside v.coded (open_limits_lem v.greatest) (cells_of v.decoded ws) c.args.i c.args.cell.now (omega (arith, words_length v.decoded ws)) in
-    record { answer = ap Err c.no-cell.ensures ∙ sym n.0; after = sym n.1; kept = refl {a = open_limits_lem v.greatest}; words = refl {a = ws}; lender = refl {a = c.args.self.now.words.ghost_name} }
+    record { answer = ap Err c.no_cell.ensures ∙ sym n.0; after = sym n.1; kept = refl {a = open_limits_lem v.greatest}; words = refl {a = ws}; lender = refl {a = c.args.self.now.words.ghost_name} }
 
-pub returns-in-default : goal.returns-in-default
-returns-in-default g c =
+pub returns-in_default : goal.returns-in_default
+returns-in_default g c =
     let v = g.V.ValueKind in
     let ws = c.args.self.now.words.now in
-    let f = packed_none v.coded v.greatest c.args.cell.now c.in-default.ensures.answer in
+    let f = packed_none v.coded v.greatest c.args.cell.now c.in_default.ensures.answer in
     let n = store_unfit v.coded (open_limits_lem v.greatest) (cells_of v.decoded ws) c.args.i c.args.cell.now (omega (arith, words_length v.decoded ws)) f in
     record { answer = ap Err c.unfit.ensures ∙ sym n.0; after = sym n.1; kept = refl {a = open_limits_lem v.greatest}; words = refl {a = ws}; lender = refl {a = c.args.self.now.words.ghost_name} }
 
