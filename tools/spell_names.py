@@ -48,7 +48,7 @@ APART = {"first-id", "second-id"}
 
 def spelled(name):
     if name[0].isupper():
-        return "".join(p[:1].upper() + p[1:] for p in name.split("-"))
+        return "".join(p[:1].upper() + p[1:] for p in re.split("[-_]", name))
     return name.replace("-", "_") + ("_lem" if name in CALLED else "")
 
 
@@ -73,7 +73,7 @@ def declared(paths):
                     goals.setdefault(p, set()).add(m.group(1))
                     continue
                 every.setdefault(m.group(1), set()).add(p)
-                if "-" in m.group(1).strip("-"):
+                if "-" in m.group(1) or m.group(1)[0].isupper() and "_" in m.group(1):
                     mine.add(m.group(1))
     return mine, goals, every
 

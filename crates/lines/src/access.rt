@@ -37,7 +37,7 @@ fn swap_value<V: ValueKind>(
     operands: &[Operand<V>],
     new: Option<V>,
 ) -> Option<V>
-    ensures { result ≡ swap_value_lem coded kind operands.now new }
+    ensures { result ≡ swap_value_lem V.coded kind operands.now new }
 {
     match kind {
         OperationKind::Kcss if !all_meet(operands) => operand_at(operands, 0)?.first,
@@ -53,7 +53,7 @@ fn line_access<V: ValueKind>(
     new: Option<V>,
     phase: &Phase<V>,
 ) -> Option<(Line, Access<V>)>
-    ensures { result ≡ line_access_lem coded own kind operands.now new phase.now }
+    ensures { result ≡ line_access_lem V.coded own kind operands.now new phase.now }
 {
     let first = operand_at(operands, 0)?.location;
     match phase {
@@ -109,7 +109,7 @@ pub fn next_access<V: ValueKind>(
     new: Option<V>,
     phase: &Phase<V>,
 ) -> Option<(Line, Access<V>)>
-    ensures { result ≡ next_access_lem coded own kind operands.now new phase.now }
+    ensures { result ≡ next_access_lem V.coded own kind operands.now new phase.now }
 {
     if !suits(kind, phase) {
         return None;

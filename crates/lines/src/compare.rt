@@ -17,7 +17,7 @@ pub(crate) fn operand_at<V: ValueKind>(operands: &[Operand<V>], i: usize) -> Opt
 
 // Whether both hold the same value.
 fn same_values<V: ValueKind>(a: Option<V>, b: Option<V>) -> bool
-    ensures { result ≡ same_values_lem coded a b }
+    ensures { result ≡ same_values_lem V.coded a b }
 {
     match (a, b) {
         (Some(x), Some(y)) => x.same(&y),
@@ -27,7 +27,7 @@ fn same_values<V: ValueKind>(a: Option<V>, b: Option<V>) -> bool
 
 // Whether both ids and both values of an operand are the same.
 pub(crate) fn is_still<V: ValueKind>(operand: &Operand<V>) -> bool
-    ensures { result ≡ still coded operand.now }
+    ensures { result ≡ still V.coded operand.now }
 {
     operand.first_id.process == operand.second_id.process
         && operand.first_id.tag == operand.second_id.tag
@@ -36,7 +36,7 @@ pub(crate) fn is_still<V: ValueKind>(operand: &Operand<V>) -> bool
 
 // Whether that holds of every operand from `from` on.
 pub(crate) fn all_still<V: ValueKind>(operands: &[Operand<V>], from: usize) -> bool
-    ensures { result ≡ all_still_lem coded (drop from operands.now) }
+    ensures { result ≡ all_still_lem V.coded (drop from operands.now) }
 {
     for i in from..operands.len() {
         if !is_still(&operands[i]) {
@@ -48,14 +48,14 @@ pub(crate) fn all_still<V: ValueKind>(operands: &[Operand<V>], from: usize) -> b
 
 // Whether the value that was collected first is the expected one.
 pub(crate) fn is_met<V: ValueKind>(operand: &Operand<V>) -> bool
-    ensures { result ≡ meets coded operand.now }
+    ensures { result ≡ meets V.coded operand.now }
 {
     same_values(operand.first, operand.expected)
 }
 
 // Whether that holds of every operand.
 pub(crate) fn all_meet<V: ValueKind>(operands: &[Operand<V>]) -> bool
-    ensures { result ≡ all_meet coded operands.now }
+    ensures { result ≡ all_meet V.coded operands.now }
 {
     for operand in operands {
         if !is_met(operand) {

@@ -113,7 +113,7 @@ fn noted<V: ValueKind>(kind: OperationKind, operands: &[Operand<V>]) -> Option<T
 
 // Where the last S9 leads: to the end, to 11, or back to the first S6.
 fn compared<V: ValueKind>(kind: OperationKind, operands: &[Operand<V>]) -> Option<Turn<V>>
-    ensures { result ≡ compared coded kind operands.now }
+    ensures { result ≡ compared V.coded kind operands.now }
 {
     let from = snapshot_from(kind);
     match kind {
@@ -130,7 +130,7 @@ fn swapped<V: ValueKind>(
     operands: &[Operand<V>],
     said: bool,
 ) -> Option<Turn<V>>
-    ensures { result ≡ swapped coded kind operands.now said }
+    ensures { result ≡ swapped V.coded kind operands.now said }
 {
     let first = operand_at(operands, 0)?;
     match kind {
@@ -152,7 +152,7 @@ pub fn advance<V: ValueKind>(
     phase: &Phase<V>,
     seen: &Seen<V>,
 ) -> Option<Turn<V>>
-    ensures { result ≡ turn_of coded kind operands.now phase.now seen.now }
+    ensures { result ≡ turn_of V.coded kind operands.now phase.now seen.now }
 {
     match (phase, seen) {
         (Phase::Reading(read), _) => match read_turn(read, seen)? {

@@ -11,14 +11,14 @@ use value::ValueKind;
 
 // Each step of an operation of any kind is a line of the relation.
 pub fn steps_make_lines<V: ValueKind>() -> u8
-    ensures { MakesLines {V = V} coded Shows }
+    ensures { MakesLines {V = V} V.coded Shows }
 {
     0
 }
 
 // In a sound world an operation always has a next step, which is a line of the relation.
 pub fn steps_never_stick<V: ValueKind>() -> u8
-    ensures { NeverSticks {V = V} coded Shows }
+    ensures { NeverSticks {V = V} V.coded Shows }
 {
     0
 }

@@ -30,7 +30,7 @@ fn cell_of_table<V: ValueKind>(table: &[Cell<V>], i: usize) -> Result<Cell<V>, M
 impl<'a, V: ValueKind> Memory<V> for OpenMemory<'a, V> {
     ghost cells = { λ m. first_cells m.cells.now };
 
-    ghost limits = { λ m. open_limits_lem greatest };
+    ghost limits = { λ m. open_limits_lem V.greatest };
 
     ghost few = { λ m. first_few m.cells.now };
 
@@ -49,9 +49,9 @@ impl<'a, V: ValueKind> Memory<V> for OpenMemory<'a, V> {
     // Beyond the interface, no other cell of the table changes, be it past the first 65,535, and the caller's table is
     // the one that changes.
     fn store(&mut self, i: usize, cell: &Cell<V>) -> Result<(), MemoryFault>
-        ensures answer { result ≡ store_answer coded (open_limits_lem greatest) (first_cells self.old.cells.now) i cell.now }
-        ensures after { first_cells self.new.cells.now ≡ store_after coded (open_limits_lem greatest) (first_cells self.old.cells.now) i cell.now }
-        ensures kept { open_limits_lem greatest ≡ open_limits_lem greatest }
+        ensures answer { result ≡ store_answer V.coded (open_limits_lem V.greatest) (first_cells self.old.cells.now) i cell.now }
+        ensures after { first_cells self.new.cells.now ≡ store_after V.coded (open_limits_lem V.greatest) (first_cells self.old.cells.now) i cell.now }
+        ensures kept { open_limits_lem V.greatest ≡ open_limits_lem V.greatest }
         ensures table { self.new.cells.now ≡ table_stored result self.old.cells.now i cell.now }
         ensures lender { self.new.cells.ghost_name ≡ self.old.cells.ghost_name }
     {
@@ -61,9 +61,9 @@ impl<'a, V: ValueKind> Memory<V> for OpenMemory<'a, V> {
     }
 
     fn cas(&mut self, i: usize, old: &Cell<V>, new: &Cell<V>) -> Result<bool, MemoryFault>
-        ensures answer { result ≡ cas_answer coded (open_limits_lem greatest) (first_cells self.old.cells.now) i old.now new.now }
-        ensures after { first_cells self.new.cells.now ≡ cas_after coded (open_limits_lem greatest) (first_cells self.old.cells.now) i old.now new.now }
-        ensures kept { open_limits_lem greatest ≡ open_limits_lem greatest }
+        ensures answer { result ≡ cas_answer V.coded (open_limits_lem V.greatest) (first_cells self.old.cells.now) i old.now new.now }
+        ensures after { first_cells self.new.cells.now ≡ cas_after V.coded (open_limits_lem V.greatest) (first_cells self.old.cells.now) i old.now new.now }
+        ensures kept { open_limits_lem V.greatest ≡ open_limits_lem V.greatest }
         ensures table { self.new.cells.now ≡ table_swapped result self.old.cells.now i new.now }
         ensures lender { self.new.cells.ghost_name ≡ self.old.cells.ghost_name }
     {

@@ -26,7 +26,7 @@ use Rattle.protocol.specs.Solo.{PhaseFits, Fits, Alone}
 use Rattle.protocol.specs.Solo.Alone.{no_line, then_starts, then_line}
 use Rattle.protocol.specs.Going.{CanStep}
 use Rattle.protocol.specs.Finishes.{FinishesAlone}
-use Rattle.protocol.specs.Sound.{CellsSound, ReadSound, PhaseSound, ProcessSound, Sound, Goes_on}
+use Rattle.protocol.specs.Sound.{CellsSound, ReadSound, PhaseSound, ProcessSound, Sound, GoesOn}
 use Rattle.protocol.proofs.Changes.{clash, changed_here}
 use Rattle.protocol.proofs.Fitting.{asked_bounds}
 use Rattle.protocol.proofs.Sounding.{stays_sound}
@@ -202,7 +202,7 @@ module _ {V : Type 0} (p : ℕ) (m : Machine V) (q : Request V) (S : Sound m p) 
     ends_it = λ N b x s e r ended answer effect l. let h = (runs_on x).2 in let k = (keeps l).0 in cc;
   }
 
-pub goes_on : {V : Type 0} → Discrete V → Goes_on V
+pub goes_on : {V : Type 0} → Discrete V → GoesOn V
 goes_on d = record {
   goes = λ t p m S f. goes d t p (world m) (m.processes p) f S.process;
   stays_sound = stays_sound;

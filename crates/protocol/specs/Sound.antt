@@ -68,7 +68,7 @@ pub record Sound {V : Type 0} (m : Machine V) (p : ℕ) : Type 0 where
 
 -- A process that runs an operation in a sound machine can make its next line, and the machine after any line that it
 -- makes is sound. So, stepped alone, it ends what it was asked within its bound.
-pub record Goes_on (V : Type 0) : Type 0 where
+pub record GoesOn (V : Type 0) : Type 0 where
   pub goes : (t p : ℕ) (m : Machine V) → Sound m p → Fits (m.processes p) → CanStep t p (world m) (m.processes p)
   pub stays_sound : (t p : ℕ) (m : Machine V) (e : Event V) (r : Process V) (d : Option (Done V))
       → Line t p (world m) (m.processes p) e r d → Sound m p → Sound (turned m e p r) p

@@ -14,7 +14,7 @@ ghost use Rattle.protocol.specs.Going.{LinesGoOn};
 ghost use Rattle.protocol.specs.Lawful.{RunLaw};
 ghost use Rattle.protocol.specs.Solo.{SoloBounds};
 ghost use Rattle.protocol.specs.Asked.{AskedBounds};
-ghost use Rattle.protocol.specs.Sound.{Goes_on, RunsSound};
+ghost use Rattle.protocol.specs.Sound.{GoesOn, RunsSound};
 ghost use Rattle.protocol.specs.Finishes.{RunsFinish};
 
 use value::ValueKind;
@@ -125,7 +125,7 @@ pub fn asked_bounds<V>() -> u8
 // In a sound machine a process that runs an operation can make its next line, and the machine stays sound for it: stepped
 // alone, it ends what it was asked within its bound.
 pub fn solo_goes_on<V: ValueKind>() -> u8
-    ensures { Goes_on V }
+    ensures { GoesOn V }
 {
     0
 }

@@ -8,7 +8,6 @@ ghost use Rattle.report.specs.Texts.{Adds};
 
 use sheet::Sheet;
 use std::alloc::{AllocError, Global};
-use std::fmt;
 use value::ValueKind;
 
 // How many bytes came, and whether they are the bytes that were read.
@@ -24,7 +23,7 @@ pub(crate) fn write_again<V: ValueKind>(
     sheet: &Sheet<V>,
     bytes: &[u8],
 ) -> Result<Again, AllocError>
-    requires { GivesBack coded number (parts_of sheet.now) bytes.now }
+    requires { GivesBack V.coded V.number (parts_of sheet.now) bytes.now }
     ensures { IfOk result (λ again. (again.long ≡ length bytes.now) × (again.same ≡ true)) }
 {
     let mut out = vec![in heap; 0u8; bytes.len()]?;
@@ -41,7 +40,7 @@ pub(crate) fn write_again<V: ValueKind>(
 }
 
 // What came.
-pub(crate) fn push_again(out: &mut String, again: Again) -> fmt::Result
+pub(crate) fn push_again(out: &mut String, again: Again) -> Result<(), AllocError>
     ensures { Adds result (string_bytes out.old) (again_line again.long again.same) (string_bytes out.new) }
 {
     let long = again.long;

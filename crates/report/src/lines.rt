@@ -5,11 +5,11 @@ ghost use Rattle.report.specs.Lines.{size_line, header_line, values_heading, val
 ghost use Rattle.report.specs.Texts.{Adds, values_text, script_text};
 
 use sheet::ScriptItem;
-use std::fmt;
+use std::alloc::AllocError;
 use value::ValueKind;
 
 // How many bytes the sheet has.
-pub(crate) fn push_size(out: &mut String, long: usize) -> fmt::Result
+pub(crate) fn push_size(out: &mut String, long: usize) -> Result<(), AllocError>
     ensures { Adds result (string_bytes out.old) (size_line long) (string_bytes out.new) }
 {
     writeln!(out, "run sheet, {long} bytes")
@@ -22,7 +22,7 @@ pub(crate) fn push_header(
     locations: usize,
     processes: u16,
     items: usize,
-) -> fmt::Result
+) -> Result<(), AllocError>
     ensures { Adds result (string_bytes out.old) (header_line kind locations processes items) (string_bytes out.new) }
 {
     writeln!(
@@ -31,22 +31,22 @@ pub(crate) fn push_header(
     )
 }
 
-fn push_values_heading(out: &mut String) -> fmt::Result
+fn push_values_heading(out: &mut String) -> Result<(), AllocError>
     ensures { Adds result (string_bytes out.old) values_heading (string_bytes out.new) }
 {
     writeln!(out, "initial values")
 }
 
 // The code of the value that a location holds at first.
-fn push_value(out: &mut String, location: usize, code: u64) -> fmt::Result
+fn push_value(out: &mut String, location: usize, code: u64) -> Result<(), AllocError>
     ensures { Adds result (string_bytes out.old) (value_line location code) (string_bytes out.new) }
 {
     writeln!(out, "  location {location}: code {code}")
 }
 
 // The initial values.
-pub(crate) fn push_values<V: ValueKind>(out: &mut String, values: &[V]) -> fmt::Result
-    ensures { Adds result (string_bytes out.old) (values_text coded values.now) (string_bytes out.new) }
+pub(crate) fn push_values<V: ValueKind>(out: &mut String, values: &[V]) -> Result<(), AllocError>
+    ensures { Adds result (string_bytes out.old) (values_text V.coded values.now) (string_bytes out.new) }
 {
     push_values_heading(out)?;
     for (location, value) in values.iter().enumerate() {
@@ -55,14 +55,19 @@ pub(crate) fn push_values<V: ValueKind>(out: &mut String, values: &[V]) -> fmt::
     Ok(())
 }
 
-fn push_schedule_heading(out: &mut String) -> fmt::Result
+fn push_schedule_heading(out: &mut String) -> Result<(), AllocError>
     ensures { Adds result (string_bytes out.old) schedule_heading (string_bytes out.new) }
 {
     writeln!(out, "schedule")
 }
 
 // One turn of the schedule, after so many starts.
-fn push_item(out: &mut String, turn: usize, started: usize, item: &ScriptItem) -> fmt::Result
+fn push_item(
+    out: &mut String,
+    turn: usize,
+    started: usize,
+    item: &ScriptItem,
+) -> Result<(), AllocError>
     requires { started + 1 < 2 ^ 64 }
     ensures { Adds result (string_bytes out.old) (item_line turn started item.now) (string_bytes out.new) }
 {
@@ -87,7 +92,7 @@ fn started_after(item: &ScriptItem, started: usize) -> usize
 }
 
 // The schedule, its turns counted from 1.
-pub(crate) fn push_script(out: &mut String, script: &[ScriptItem]) -> fmt::Result
+pub(crate) fn push_script(out: &mut String, script: &[ScriptItem]) -> Result<(), AllocError>
     ensures { Adds result (string_bytes out.old) (script_text script.now) (string_bytes out.new) }
 {
     push_schedule_heading(out)?;

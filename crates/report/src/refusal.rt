@@ -4,7 +4,7 @@ ghost use Rattle.report.specs.Lines.{refusal_words, refusal_line};
 ghost use Rattle.report.specs.Texts.{Adds};
 
 use sheet::{SheetFault, SheetRefusal};
-use std::fmt;
+use std::alloc::AllocError;
 
 // Why a sheet is refused.
 fn words(refusal: SheetRefusal) -> &'static str
@@ -26,7 +26,7 @@ fn words(refusal: SheetRefusal) -> &'static str
 }
 
 // The layer, number and place of a refusal, and why.
-pub(crate) fn push_refusal(out: &mut String, fault: SheetFault) -> fmt::Result
+pub(crate) fn push_refusal(out: &mut String, fault: SheetFault) -> Result<(), AllocError>
     ensures { Adds result (string_bytes out.old) (refusal_line fault) (string_bytes out.new) }
 {
     let layer = fault.layer();

@@ -14,12 +14,15 @@ use crate::operations::push_operations;
 use crate::refusal::push_refusal;
 use sheet::{ReadError, Sheet, SheetFault};
 use std::alloc::{AllocError, Global};
-use std::fmt;
 use value::{Link, Number, ValueKind};
 
 // What a sheet of this length says.
-fn push_parts<V: ValueKind>(out: &mut String, sheet: &Sheet<V>, long: usize) -> fmt::Result
-    ensures { Adds result (string_bytes out.old) (parts_text coded number long (parts_of sheet.now)) (string_bytes out.new) }
+fn push_parts<V: ValueKind>(
+    out: &mut String,
+    sheet: &Sheet<V>,
+    long: usize,
+) -> Result<(), AllocError>
+    ensures { Adds result (string_bytes out.old) (parts_text V.coded V.number long (parts_of sheet.now)) (string_bytes out.new) }
 {
     push_size(out, long)?;
     push_header(
@@ -40,8 +43,8 @@ fn push_sheet<V: ValueKind>(
     sheet: &Sheet<V>,
     long: usize,
     again: Again,
-) -> fmt::Result
-    ensures { Adds result (string_bytes out.old) (parts_text coded number long (parts_of sheet.now) ++ again_line again.long again.same) (string_bytes out.new) }
+) -> Result<(), AllocError>
+    ensures { Adds result (string_bytes out.old) (parts_text V.coded V.number long (parts_of sheet.now) ++ again_line again.long again.same) (string_bytes out.new) }
 {
     push_parts(out, sheet, long)?;
     push_again(out, again)
@@ -53,18 +56,16 @@ fn report_sheet<V: ValueKind>(
     sheet: &Sheet<V>,
     bytes: &[u8],
 ) -> Result<Report, AllocError>
-    requires { GivesBack coded number (parts_of sheet.now) bytes.now }
-    ensures { IfOk result (λ t. Reports t (answer_text coded number (length bytes.now) (Ok (parts_of sheet.now))) true) }
+    requires { GivesBack V.coded V.number (parts_of sheet.now) bytes.now }
+    ensures { IfOk result (λ t. Reports t (answer_text V.coded V.number (length bytes.now) (Ok (parts_of sheet.now))) true) }
 {
     let again = write_again(heap, sheet, bytes)?;
     let mut text = String::new(heap);
-    match push_sheet(&mut text, sheet, bytes.len(), again) {
-        Ok(()) => Ok(Report {
-            text,
-            accepted: true,
-        }),
-        Err(_) => Err(AllocError),
-    }
+    push_sheet(&mut text, sheet, bytes.len(), again)?;
+    Ok(Report {
+        text,
+        accepted: true,
+    })
 }
 
 // The report on a sheet that was refused.
@@ -72,18 +73,16 @@ fn report_refusal(heap: Global, fault: SheetFault) -> Result<Report, AllocError>
     ensures { IfOk result (λ t. Reports t (refusal_line fault) false) }
 {
     let mut text = String::new(heap);
-    match push_refusal(&mut text, fault) {
-        Ok(()) => Ok(Report {
-            text,
-            accepted: false,
-        }),
-        Err(_) => Err(AllocError),
-    }
+    push_refusal(&mut text, fault)?;
+    Ok(Report {
+        text,
+        accepted: false,
+    })
 }
 
 // The report on bytes that are read as a sheet of one kind of values.
 fn report_of<V: ValueKind>(heap: Global, bytes: &[u8]) -> Result<Report, AllocError>
-    ensures { IfOk result (λ t. Reports t (answer_text coded number (length bytes.now) (read_answer decoded bytes.now number)) (is_ok (read_answer decoded bytes.now number))) }
+    ensures { IfOk result (λ t. Reports t (answer_text V.coded V.number (length bytes.now) (read_answer V.decoded bytes.now V.number)) (is_ok (read_answer V.decoded bytes.now V.number))) }
 {
     match sheet::read::<V>(heap, bytes) {
         Ok(sheet) => report_sheet(heap, &sheet, bytes),

@@ -11,7 +11,7 @@ use value::ValueKind;
 // The value whose code stands at `at`.
 pub(crate) fn read_value<V: ValueKind>(bytes: &[u8], at: usize) -> Result<V, SheetFault>
     requires { at + 8 ≤ length bytes.now }
-    ensures { result ≡ value_answer decoded bytes.now at }
+    ensures { result ≡ value_answer V.decoded bytes.now at }
 {
     V::from_code(number_at(bytes, at, 8)).ok_or(SheetFault {
         refusal: SheetRefusal::WrongCode,
@@ -27,8 +27,8 @@ pub(crate) fn read_values<V: ValueKind>(
     count: usize,
 ) -> Result<Vec<V>, ReadError>
     requires { at + 8 * count ≤ length bytes.now }
-    ensures answer { Reads (λ v. v.items) result (values_answer decoded bytes.now at count) }
-    ensures memory { NeedsMemory result (is_ok (value_answer decoded bytes.now at) ≡ true) }
+    ensures answer { Reads (λ v. v.items) result (values_answer V.decoded bytes.now at count) }
+    ensures memory { NeedsMemory result (is_ok (value_answer V.decoded bytes.now at) ≡ true) }
 {
     let mut values = Vec::new(heap);
     for i in 0..count {
@@ -41,7 +41,7 @@ pub(crate) fn read_values<V: ValueKind>(
 // One operand: a location and the value expected there.
 pub(crate) fn read_operand<V: ValueKind>(bytes: &[u8], at: usize) -> Result<Operand<V>, SheetFault>
     requires { at + 10 ≤ length bytes.now }
-    ensures { result ≡ operand_answer decoded bytes.now at }
+    ensures { result ≡ operand_answer V.decoded bytes.now at }
 {
     let location = location_at(bytes, at);
     let expected = read_value(bytes, at + 2)?;
@@ -56,7 +56,7 @@ pub(crate) fn read_operands<V: ValueKind>(
     count: usize,
 ) -> Result<Vec<Operand<V>>, ReadError>
     requires { at + 10 * count ≤ length bytes.now }
-    ensures { Reads (λ v. v.items) result (operands_answer decoded bytes.now at count) }
+    ensures { Reads (λ v. v.items) result (operands_answer V.decoded bytes.now at count) }
 {
     let mut operands = Vec::new(heap);
     for i in 0..count {

@@ -73,7 +73,7 @@ fn read_action<V: ValueKind>(
 ) -> Result<Action<V>, ReadError>
     requires some { 1 ≤ head.count }
     requires inside { at + size_by head.count ≤ length bytes.now }
-    ensures { Reads act_of result (action_by decoded bytes.now at head.kind head.count) }
+    ensures { Reads act_of result (action_by V.decoded bytes.now at head.kind head.count) }
 {
     let operands_at = at + 12;
     let location = location_at(bytes, operands_at);
@@ -105,7 +105,7 @@ pub(crate) fn read_operation<V: ValueKind>(
 ) -> Result<(Operation<V>, usize), ReadError>
     requires before { at ≤ end }
     requires inside { end ≤ length bytes.now }
-    ensures answer { Reads (λ read. op_of read.0) result (operation_answer decoded bytes.now end at) }
+    ensures answer { Reads (λ read. op_of read.0) result (operation_answer V.decoded bytes.now end at) }
     ensures next { IfOk result (λ read. (read.1 ≡ at + size_by (slice_index bytes.now (at + 2))) × (read.1 ≤ end)) }
 {
     let head = read_head(bytes, at, end)?;

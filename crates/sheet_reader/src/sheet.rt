@@ -24,7 +24,7 @@ fn read_operations<V: ValueKind>(
 ) -> Result<Vec<Operation<V>>, ReadError>
     requires before { at ≤ end }
     requires inside { end ≤ length bytes.now }
-    ensures { Reads (λ v. map op_of v.items) result (operations_answer decoded bytes.now end 4096 at) }
+    ensures { Reads (λ v. map op_of v.items) result (operations_answer V.decoded bytes.now end 4096 at) }
 {
     let mut operations = Vec::new(heap);
     let mut next = at;
@@ -45,9 +45,9 @@ fn read_operations<V: ValueKind>(
 // The sheet that the bytes hold, or why they hold none. Writing the sheet gives the bytes back. Memory can
 // be wanting only once the header was found right and the first code gave a value.
 pub fn read<V: ValueKind>(heap: Global, bytes: &[u8]) -> Result<Sheet<V>, ReadError>
-    ensures answer { Reads parts_of result (read_answer decoded bytes.now number) }
-    ensures memory { NeedsMemory result (Keeps decoded bytes.now number) }
-    ensures returns { IfOk result (λ sheet. GivesBack coded number (parts_of sheet) bytes.now) }
+    ensures answer { Reads parts_of result (read_answer V.decoded bytes.now V.number) }
+    ensures memory { NeedsMemory result (Keeps V.decoded bytes.now V.number) }
+    ensures returns { IfOk result (λ sheet. GivesBack V.coded V.number (parts_of sheet) bytes.now) }
 {
     let header = read_header(bytes, V::kind_number())?;
     let initial = read_values(heap, bytes, HEADER_LENGTH, header.locations as usize)?;

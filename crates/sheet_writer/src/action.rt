@@ -35,7 +35,7 @@ pub(crate) fn action_count<V: ValueKind>(action: &Action<V>) -> usize
 
 // The code of the new value, and 0 where there is none.
 pub(crate) fn new_code<V: ValueKind>(action: &Action<V>) -> u64
-    ensures { result ≡ new_code_lem coded (act_of action.now) }
+    ensures { result ≡ new_code_lem V.coded (act_of action.now) }
 {
     match action {
         Action::Read(_) | Action::Ll(_) | Action::Snapshot(_) => 0,

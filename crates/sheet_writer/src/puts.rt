@@ -38,8 +38,8 @@ fn put_fields(out: &mut [u8], at: usize, fields: &[(usize, u64)]) -> usize
 
 // The codes of the values.
 fn put_values<V: ValueKind>(out: &mut [u8], at: usize, values: &[V]) -> usize
-    requires { Room out.old at (flat_map (value_bytes coded) values.now) }
-    ensures { Puts out.old at (flat_map (value_bytes coded) values.now) out.new result }
+    requires { Room out.old at (flat_map (value_bytes V.coded) values.now) }
+    ensures { Puts out.old at (flat_map (value_bytes V.coded) values.now) out.new result }
 {
     let mut next = at;
     for value in values {
@@ -73,8 +73,8 @@ fn put_locations(out: &mut [u8], at: usize, locations: &[u16]) -> usize
 
 // Locations, each with the code of its expected value.
 fn put_expected<V: ValueKind>(out: &mut [u8], at: usize, operands: &[Operand<V>]) -> usize
-    requires { Room out.old at (flat_map (expected_bytes coded) operands.now) }
-    ensures puts { Puts out.old at (flat_map (expected_bytes coded) operands.now) out.new result }
+    requires { Room out.old at (flat_map (expected_bytes V.coded) operands.now) }
+    ensures puts { Puts out.old at (flat_map (expected_bytes V.coded) operands.now) out.new result }
     ensures fits { Operands operands.now }
 {
     let mut next = at;
@@ -86,8 +86,8 @@ fn put_expected<V: ValueKind>(out: &mut [u8], at: usize, operands: &[Operand<V>]
 
 // The locations that an action names, with the codes that it expects there.
 fn put_operands<V: ValueKind>(out: &mut [u8], at: usize, action: &Action<V>) -> usize
-    requires { Room out.old at (operands_bytes coded (act_of action.now)) }
-    ensures puts { Puts out.old at (operands_bytes coded (act_of action.now)) out.new result }
+    requires { Room out.old at (operands_bytes V.coded (act_of action.now)) }
+    ensures puts { Puts out.old at (operands_bytes V.coded (act_of action.now)) out.new result }
     ensures fits { Fitting (act_of action.now) }
 {
     match action {
@@ -101,9 +101,9 @@ fn put_operands<V: ValueKind>(out: &mut [u8], at: usize, action: &Action<V>) -> 
 
 // An operation: kind, process, count, a zero byte, the new code and the operands.
 fn put_operation<V: ValueKind>(out: &mut [u8], at: usize, operation: &Operation<V>) -> usize
-    requires room { Room out.old at (op_bytes coded (op_of operation.now)) }
+    requires room { Room out.old at (op_bytes V.coded (op_of operation.now)) }
     requires small { act_count (act_of operation.now.action) < 256 }
-    ensures puts { Puts out.old at (op_bytes coded (op_of operation.now)) out.new result }
+    ensures puts { Puts out.old at (op_bytes V.coded (op_of operation.now)) out.new result }
     ensures fits { Fitting (act_of operation.now.action) }
 {
     let action = &operation.action;
@@ -120,9 +120,9 @@ fn put_operation<V: ValueKind>(out: &mut [u8], at: usize, operation: &Operation<
 
 // The operations one after another.
 fn put_operations<V: ValueKind>(out: &mut [u8], at: usize, operations: &[Operation<V>]) -> usize
-    requires room { Room out.old at (flat_map (op_bytes coded) (map op_of operations.now)) }
+    requires room { Room out.old at (flat_map (op_bytes V.coded) (map op_of operations.now)) }
     requires small { Small operations.now }
-    ensures puts { Puts out.old at (flat_map (op_bytes coded) (map op_of operations.now)) out.new result }
+    ensures puts { Puts out.old at (flat_map (op_bytes V.coded) (map op_of operations.now)) out.new result }
     ensures fits { AllFitting (map op_of operations.now) }
 {
     let mut next = at;
@@ -146,9 +146,9 @@ fn put_script(out: &mut [u8], at: usize, items: &[ScriptItem]) -> usize
 
 // The header of a sheet whose bytes end at `end`.
 fn put_header<V: ValueKind>(out: &mut [u8], sheet: &Sheet<V>, end: usize) -> usize
-    requires room { Room out.old 0 (header_bytes coded number (parts_of sheet.now)) }
+    requires room { Room out.old 0 (header_bytes V.coded V.number (parts_of sheet.now)) }
     requires whole { end ≡ total (parts_of sheet.now) }
-    ensures { Puts out.old 0 (header_bytes coded number (parts_of sheet.now)) out.new result }
+    ensures { Puts out.old 0 (header_bytes V.coded V.number (parts_of sheet.now)) out.new result }
 {
     let locations = sheet.initial.len();
     let items = sheet.script.len();
@@ -168,10 +168,10 @@ fn put_header<V: ValueKind>(out: &mut [u8], sheet: &Sheet<V>, end: usize) -> usi
 
 // A whole sheet, from the beginning of the output on; its bytes end at `end`.
 pub(crate) fn put_sheet<V: ValueKind>(out: &mut [u8], sheet: &Sheet<V>, end: usize) -> usize
-    requires room { Room out.old 0 (sheet_bytes coded number (parts_of sheet.now)) }
+    requires room { Room out.old 0 (sheet_bytes V.coded V.number (parts_of sheet.now)) }
     requires whole { end ≡ total (parts_of sheet.now) }
     requires small { Small sheet.now.operations.items }
-    ensures puts { Puts out.old 0 (sheet_bytes coded number (parts_of sheet.now)) out.new result }
+    ensures puts { Puts out.old 0 (sheet_bytes V.coded V.number (parts_of sheet.now)) out.new result }
     ensures fits { AllFitting (parts_of sheet.now).operations }
 {
     let values_at = put_header(out, sheet, end);

@@ -14,8 +14,8 @@ use value::ValueKind;
 // sheet back.
 pub fn write<V: ValueKind>(sheet: &Sheet<V>, out: &mut [u8]) -> Result<usize, SheetFault>
     ensures answer { result ≡ write_answer (parts_of sheet.now) (length out.old) }
-    ensures after { out.new ≡ write_after (parts_of sheet.now) coded number out.old }
-    ensures returns { IfOk result (λ n. read_answer decoded (take n out.new) number ≡ Ok (parts_of sheet.now)) }
+    ensures after { out.new ≡ write_after (parts_of sheet.now) V.coded V.number out.old }
+    ensures returns { IfOk result (λ n. read_answer V.decoded (take n out.new) V.number ≡ Ok (parts_of sheet.now)) }
 {
     let end = layout(sheet)?;
     if out.len() < end {

@@ -8,7 +8,7 @@ use Rattle.open_memory.proofs.cell_of_table.Goals as goal
 pub returns-then-i-count : goal.returns-then-i-count
 returns-then-i-count g c =
     let cs = c.args.table.now in
-    ap Err c.no-cell.ensures ∙ sym (load_no (first_cells cs) c.args.i (omega (arith, first_length cs)))
+    ap Err c.no_cell.ensures ∙ sym (load_no (first_cells cs) c.args.i (omega (arith, first_length cs)))
 
 pub returns : goal.returns
 returns g c =

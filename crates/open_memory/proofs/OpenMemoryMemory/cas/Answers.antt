@@ -10,14 +10,14 @@ pub bounds-self-i : goal.bounds-self-i
 bounds-self-i g c =
     let v = g.V.ValueKind in
     let cs = c.args.self.now.cells.now in
-    let p = passed_table v.coded (open_limits_lem v.greatest) cs c.args.i c.args.new.now c.in-ok-admit-change.ensures c.limits.ensures (omega (arith, first_length cs)) in
+    let p = passed_table v.coded (open_limits_lem v.greatest) cs c.args.i c.args.new.now c.in_ok-admit_change.ensures c.limits.ensures (omega (arith, first_length cs)) in
     omega arith
 
-pub offset-bounds-self-i : goal.offset-bounds-self-i
-offset-bounds-self-i g c =
+pub offset_bounds-self-i : goal.offset_bounds-self-i
+offset_bounds-self-i g c =
     let v = g.V.ValueKind in
     let cs = c.args.self.now.cells.now in
-    let p = passed_table v.coded (open_limits_lem v.greatest) cs c.args.i c.args.new.now c.in-ok-admit-change.ensures c.limits.ensures (omega (arith, first_length cs)) in
+    let p = passed_table v.coded (open_limits_lem v.greatest) cs c.args.i c.args.new.now c.in_ok-admit_change.ensures c.limits.ensures (omega (arith, first_length cs)) in
     let h = p.below in
     search rules
 
@@ -25,14 +25,14 @@ pub bounds-self-i-2 : goal.bounds-self-i-2
 bounds-self-i-2 g c =
     let v = g.V.ValueKind in
     let cs = c.args.self.now.cells.now in
-    let p = passed_table v.coded (open_limits_lem v.greatest) cs c.args.i c.args.new.now c.in-ok-admit-change.ensures c.limits.ensures (omega (arith, first_length cs)) in
+    let p = passed_table v.coded (open_limits_lem v.greatest) cs c.args.i c.args.new.now c.in_ok-admit_change.ensures c.limits.ensures (omega (arith, first_length cs)) in
     omega arith
 
-pub offset-bounds-self-i-2 : goal.offset-bounds-self-i-2
-offset-bounds-self-i-2 g c =
+pub offset_bounds-self-i-2 : goal.offset_bounds-self-i-2
+offset_bounds-self-i-2 g c =
     let v = g.V.ValueKind in
     let cs = c.args.self.now.cells.now in
-    let p = passed_table v.coded (open_limits_lem v.greatest) cs c.args.i c.args.new.now c.in-ok-admit-change.ensures c.limits.ensures (omega (arith, first_length cs)) in
+    let p = passed_table v.coded (open_limits_lem v.greatest) cs c.args.i c.args.new.now c.in_ok-admit_change.ensures c.limits.ensures (omega (arith, first_length cs)) in
     let h = p.below in
     search rules
 
@@ -40,17 +40,17 @@ pub returns : goal.returns
 returns g c =
     let v = g.V.ValueKind in
     let cs = c.args.self.now.cells.now in
-    let p = passed_table v.coded (open_limits_lem v.greatest) cs c.args.i c.args.new.now c.in-ok-admit-change.ensures c.limits.ensures (omega (arith, first_length cs)) in
+    let p = passed_table v.coded (open_limits_lem v.greatest) cs c.args.i c.args.new.now c.in_ok-admit_change.ensures c.limits.ensures (omega (arith, first_length cs)) in
     let r = get_or_read cs c.args.i c.index-self-i.result p.below c.index-self-i.is id_zero in
     let s : same v.coded c.index-self-i.result c.args.old.now ≡ true = search rules in
     let w = swapped v.coded (open_limits_lem v.greatest) cs c.args.i c.args.new.now p.inside p.fit c.args.old.now true (ap (λ x. same v.coded x c.args.old.now) (first_at cs c.args.i p.inside ∙ sym r) ∙ s) refl refl in
     record { answer = w.answer; after = w.after; kept = refl {a = open_limits_lem v.greatest}; table = w.whole; lender = refl {a = c.args.self.now.cells.ghost_name} }
 
-pub returns-then-not-same-cell : goal.returns-then-not-same-cell
-returns-then-not-same-cell g c =
+pub returns-then-not-same_cell : goal.returns-then-not-same_cell
+returns-then-not-same_cell g c =
     let v = g.V.ValueKind in
     let cs = c.args.self.now.cells.now in
-    let p = passed_table v.coded (open_limits_lem v.greatest) cs c.args.i c.args.new.now c.in-ok-admit-change.ensures c.limits.ensures (omega (arith, first_length cs)) in
+    let p = passed_table v.coded (open_limits_lem v.greatest) cs c.args.i c.args.new.now c.in_ok-admit_change.ensures c.limits.ensures (omega (arith, first_length cs)) in
     let r = get_or_read cs c.args.i c.index-self-i.result p.below c.index-self-i.is id_zero in
     let s : same v.coded c.index-self-i.result c.args.old.now ≡ false = search rules in
     let w = swapped v.coded (open_limits_lem v.greatest) cs c.args.i c.args.new.now p.inside p.fit c.args.old.now false (ap (λ x. same v.coded x c.args.old.now) (first_at cs c.args.i p.inside ∙ sym r) ∙ s) refl refl in

@@ -8,14 +8,14 @@ pub bounds-self-i : goal.bounds-self-i
 bounds-self-i g c =
     let v = g.V.ValueKind in
     let cs = c.args.self.now.cells.now in
-    let p = passed_table v.coded (open_limits_lem v.greatest) cs c.args.i c.args.cell.now c.in-ok-admit-change.ensures c.limits.ensures (omega (arith, first_length cs)) in
+    let p = passed_table v.coded (open_limits_lem v.greatest) cs c.args.i c.args.cell.now c.in_ok-admit_change.ensures c.limits.ensures (omega (arith, first_length cs)) in
     omega arith
 
-pub offset-bounds-self-i : goal.offset-bounds-self-i
-offset-bounds-self-i g c =
+pub offset_bounds-self-i : goal.offset_bounds-self-i
+offset_bounds-self-i g c =
     let v = g.V.ValueKind in
     let cs = c.args.self.now.cells.now in
-    let p = passed_table v.coded (open_limits_lem v.greatest) cs c.args.i c.args.cell.now c.in-ok-admit-change.ensures c.limits.ensures (omega (arith, first_length cs)) in
+    let p = passed_table v.coded (open_limits_lem v.greatest) cs c.args.i c.args.cell.now c.in_ok-admit_change.ensures c.limits.ensures (omega (arith, first_length cs)) in
     let h = p.below in
     search rules
 
@@ -23,6 +23,6 @@ pub returns : goal.returns
 returns g c =
     let v = g.V.ValueKind in
     let cs = c.args.self.now.cells.now in
-    let p = passed_table v.coded (open_limits_lem v.greatest) cs c.args.i c.args.cell.now c.in-ok-admit-change.ensures c.limits.ensures (omega (arith, first_length cs)) in
+    let p = passed_table v.coded (open_limits_lem v.greatest) cs c.args.i c.args.cell.now c.in_ok-admit_change.ensures c.limits.ensures (omega (arith, first_length cs)) in
     let s = stored v.coded (open_limits_lem v.greatest) cs c.args.i c.args.cell.now p.inside p.fit refl refl in
     record { answer = s.answer; after = s.after; kept = refl {a = open_limits_lem v.greatest}; table = s.whole; lender = refl {a = c.args.self.now.cells.ghost_name} }

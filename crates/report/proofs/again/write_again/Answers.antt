@@ -9,12 +9,12 @@ use Rattle.std.proofs.lemmas.Bool.Decides.{Decides-eqb}
 pub returns-in-Ok : goal.returns-in-Ok
 returns-in-Ok g c =
     let bytes = c.args.bytes.now in
-    let out = c.as-mut-slice.result.now in
-    let made : vec_len c.in-ok-out.out ≡ length bytes = c.in-ok-out.ensures.len in
-    let long : length out ≡ length bytes = c.as-mut-slice.ensures.len ∙ made in
+    let out = c.as_mut_slice.result.now in
+    let made : vec_len c.in_ok-out.out ≡ length bytes = c.in_ok-out.ensures.len in
+    let long : length out ≡ length bytes = c.as_mut_slice.ensures.len ∙ made in
     let room : length bytes ≤ length out = omega arith in
     let wrote = c.write.ensures.answer ∙ c.requires.1 (length out) room in
     let was = c.in-Ok.is in
     let same = c.write.ensures.after ∙ comes_back g.V.ValueKind.coded g.V.ValueKind.number (parts_of c.args.sheet.now) bytes out c.requires long in
-    let filled = with_items_is c.in-ok-out.out c.write.new.out (ap length same ∙ sym made) in
-    ((cc), (slice_eq-Decides Decides-eqb _ _ _ c.eq.ensures).1 (c.as-slice.ensures.value ∙ filled ∙ same))
+    let filled = with_items_is c.in_ok-out.out c.write.new.out (ap length same ∙ sym made) in
+    ((cc), (slice_eq-Decides Decides-eqb _ _ _ c.eq.ensures).1 (c.as_slice.ensures.value ∙ filled ∙ same))

@@ -16,19 +16,19 @@ loop-i-preserved c =
     let i = c.loop-i.i in
     let n = c.loop-i.started in
     let x = get_or xs i Start in
-    let more = c.started-after-started.result in (
-      omega (arith, started_le x n, c.started-after-started.ensures, c.loop-i.invariant.0),
+    let more = c.started_after-started.result in (
+      omega (arith, started_le x n, c.started_after-started.ensures, c.loop-i.invariant.0),
       row_more _ (string_bytes c.loop-i.out) _ (λ zs. turns i n zs) (λ zs. turns (i + 1) more zs) xs i Start (item_line (i + 1) n x)
-          c.loop-i-test.true (ap (λ (k : ℕ). item_line (i + 1) n x ++ turns (i + 1) k (drop (i + 1) xs)) (sym c.started-after-started.ensures))
-          c.loop-i.invariant.1 c.in-ok-push-item.ensures,
+          c.loop-i-test.true (ap (λ (k : ℕ). item_line (i + 1) n x ++ turns (i + 1) k (drop (i + 1) xs)) (sym c.started_after-started.ensures))
+          c.loop-i.invariant.1 c.in_ok-push_item.ensures,
     )
 
 pub returns : goal.returns
 returns c =
     let xs = c.args.script.now in
     let i = c.loop-i.i in
-    let start = string_bytes c.push-schedule-heading.new.out in
+    let start = string_bytes c.push_schedule_heading.new.out in
     let end = string_bytes c.loop-i.out in
     then_adds (string_bytes c.args.out.now) start end schedule_heading (turns 0 0 xs)
-    c.in-ok-push-schedule-heading.ensures
+    c.in_ok-push_schedule_heading.ensures
     (row_all (start ++ turns 0 0 xs) end (λ zs. turns i c.loop-i.started zs) xs i c.loop-i-test.false refl c.loop-i.invariant.1)

@@ -12,7 +12,7 @@ loop-operand-preserved g c =
     let d = c.operand-item.result in
     let before = string_bytes c.loop-operand.out in
     row_more _ before _ (λ zs. flat_map (λ (o : Operand g.row.V.Denot). spaced (g.V.ValueKind.coded o.expected)) zs) (λ zs. flat_map (λ (o : Operand g.row.V.Denot). spaced (g.V.ValueKind.coded o.expected)) zs) xs i d ((λ (o : Operand g.row.V.Denot). spaced (g.V.ValueKind.coded o.expected)) (get_or xs i d))
-    c.loop-operand-test.true refl c.loop-operand.invariant (c.in-ok-push-spaced.ensures ∙ ap (λ (n : ℕ). before ++ spaced n) (c.code.ensures ∙ ap (λ (o : Operand g.row.V.Denot). g.V.ValueKind.coded o.expected) c.operand-item.is))
+    c.loop-operand-test.true refl c.loop-operand.invariant (c.in_ok-push_spaced.ensures ∙ ap (λ (n : ℕ). before ++ spaced n) (c.code.ensures ∙ ap (λ (o : Operand g.row.V.Denot). g.V.ValueKind.coded o.expected) c.operand-item.is))
 
 pub returns : goal.returns
 returns g c =

@@ -11,7 +11,7 @@ loop-location-preserved c =
     let d : ℕ = 0 in
     let before = string_bytes c.loop-location.out in
     row_more _ before _ (λ zs. flat_map spaced zs) (λ zs. flat_map spaced zs) xs i d (spaced (get_or xs i d))
-    c.loop-location-test.true refl c.loop-location.invariant c.in-ok-push-spaced.ensures
+    c.loop-location-test.true refl c.loop-location.invariant c.in_ok-push_spaced.ensures
 
 pub returns : goal.returns
 returns c =

@@ -12,7 +12,7 @@ loop-operand-preserved g c =
     let d = c.operand-item.result in
     let before = string_bytes c.loop-operand.out in
     row_more _ before _ (λ zs. flat_map (λ (o : Operand g.row.V.Denot). spaced o.location) zs) (λ zs. flat_map (λ (o : Operand g.row.V.Denot). spaced o.location) zs) xs i d ((λ (o : Operand g.row.V.Denot). spaced o.location) (get_or xs i d))
-    c.loop-operand-test.true refl c.loop-operand.invariant (c.in-ok-push-spaced.ensures ∙ ap (λ (o : Operand g.row.V.Denot). before ++ spaced o.location) c.operand-item.is)
+    c.loop-operand-test.true refl c.loop-operand.invariant (c.in_ok-push_spaced.ensures ∙ ap (λ (o : Operand g.row.V.Denot). before ++ spaced o.location) c.operand-item.is)
 
 pub returns : goal.returns
 returns g c =

@@ -10,8 +10,8 @@ returns g c =
     let o = c.args.operation.now in
     let words = act_words g.V.ValueKind.coded (act_of o.action) in
     let first = string_bytes c.write.new.self in
-    let second = string_bytes c.push-action.new.out in
+    let second = string_bytes c.push_action.new.out in
     let last = string_bytes c.writeln.new.self in
     let r = c.writeln.result in
-    adds_after (string_bytes c.args.out.now) first last (operation_front (c.args.i + 1) o.process) (words ++ line_end) r c.in-ok-write.ensures.bytes
-    (adds_after first second last words line_end r c.in-ok-push-action.ensures c.writeln.ensures.bytes)
+    adds_after (string_bytes c.args.out.now) first last (operation_front (c.args.i + 1) o.process) (words ++ line_end) r c.in_ok-write.ensures.bytes
+    (adds_after first second last words line_end r c.in_ok-push_action.ensures c.writeln.ensures.bytes)

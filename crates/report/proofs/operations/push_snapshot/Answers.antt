@@ -7,5 +7,5 @@ use Rattle.report.proofs.operations.push_snapshot.Goals as goal
 pub returns : goal.returns
 unfolding snapshot_word
 returns c =
-    adds_after (string_bytes c.args.out.now) (string_bytes c.write.new.self) (string_bytes c.push-locations.new.out) snapshot_word (flat_map spaced c.args.locations.now)
-    c.push-locations.result c.in-ok-write.ensures.bytes c.push-locations.ensures
+    adds_after (string_bytes c.args.out.now) (string_bytes c.write.new.self) (string_bytes c.push_locations.new.out) snapshot_word (flat_map spaced c.args.locations.now)
+    c.push_locations.result c.in_ok-write.ensures.bytes c.push_locations.ensures

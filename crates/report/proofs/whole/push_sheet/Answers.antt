@@ -7,6 +7,6 @@ use Rattle.report.proofs.whole.push_sheet.Goals as goal
 
 pub returns : goal.returns
 returns g c =
-    adds_after (string_bytes c.args.out.now) (string_bytes c.push-parts.new.out) (string_bytes c.push-again.new.out)
+    adds_after (string_bytes c.args.out.now) (string_bytes c.push_parts.new.out) (string_bytes c.push_again.new.out)
     (parts_text g.V.ValueKind.coded g.V.ValueKind.number c.args.long (parts_of c.args.sheet.now)) (again_line c.args.again.long c.args.again.same)
-    c.push-again.result c.in-ok-push-parts.ensures c.push-again.ensures
+    c.push_again.result c.in_ok-push_parts.ensures c.push_again.ensures

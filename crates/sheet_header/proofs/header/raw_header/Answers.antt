@@ -30,10 +30,10 @@ returns c =
     let locations = c.from_le_bytes.ensures ∙ sym (field_two bytes 2) in
     let processes = c.from_le_bytes-2.ensures ∙ sym (field_two bytes 4) in
     let items = c.from_le_bytes-3.ensures ∙ sym (field_two bytes 6) in
-    let values = field_past bytes 0 c.from-le-bytes-4.result c.from-le-bytes-4.ensures in
-    let operations = field_past bytes 4 c.from-le-bytes-5.result c.from-le-bytes-5.ensures in
-    let script = field_past bytes 8 c.from-le-bytes-6.result c.from-le-bytes-6.ensures in
-    let total = field_past bytes 12 c.from-le-bytes-7.result c.from-le-bytes-7.ensures in (
+    let values = field_past bytes 0 c.from_le_bytes-4.result c.from_le_bytes-4.ensures in
+    let operations = field_past bytes 4 c.from_le_bytes-5.result c.from_le_bytes-5.ensures in
+    let script = field_past bytes 8 c.from_le_bytes-6.result c.from_le_bytes-6.ensures in
+    let total = field_past bytes 12 c.from_le_bytes-7.result c.from_le_bytes-7.ensures in (
       omega (arith, long, c.if-rest-lt16.false),
       λ i. record { version = get_or bytes 0 0; kind = get_or bytes 1 0; locations = locations i; processes = processes i; items = items i; values = values i; operations = operations i; script = script i; total = total i },
     )

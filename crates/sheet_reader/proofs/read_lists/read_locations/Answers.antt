@@ -10,8 +10,8 @@ loop-i-init c = kept_first (locations_row c.args.bytes.now) c.args.at c.args.cou
 pub loop-i-preserved : goal.loop-i-preserved
 loop-i-preserved c =
     let row = locations_row c.args.bytes.now in
-    let put = pushed (c.location-at.result ∷ []) refl c.in-ok-push.was c.push.ensures.items in
-    kept_more row c.args.at c.args.count c.loop-i.i (vec_items c.loop-i.locations) c.loop-i-test.true c.loop-i.invariant _ _ (sym (ap Ok c.location-at.ensures)) put
+    let put = pushed (c.location_at.result ∷ []) refl c.in_ok-push.was c.push.ensures.items in
+    kept_more row c.args.at c.args.count c.loop-i.i (vec_items c.loop-i.locations) c.loop-i-test.true c.loop-i.invariant _ _ (sym (ap Ok c.location_at.ensures)) put
 
 pub returns : goal.returns
 returns c = let e = kept_all (locations_row c.args.bytes.now) c.args.at c.args.count c.loop-i.i _ c.loop-i-test.false c.loop-i.invariant in cc

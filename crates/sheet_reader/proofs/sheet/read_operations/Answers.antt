@@ -12,27 +12,27 @@ loop-next-init g c =
     let none = c.new-operations.ensures.len in
     (c.requires.before, omega arith, gathered_none g.V.ValueKind.decoded c.args.bytes.now c.args.end 4096 c.args.at _ _ (ap (map op_of) c.new-operations.ensures.items) none)
 
-pub returns-then-len-eq-MOST-OPERATIONS : goal.returns-then-len-eq-MOST-OPERATIONS
-returns-then-len-eq-MOST-OPERATIONS g c =
-    gathered_full g.V.ValueKind.decoded c.args.bytes.now c.args.end 4096 c.args.at _ _ _ c.loop-next.invariant.2 (sym c.len.ensures ∙ c.if-len-eq-MOST-OPERATIONS.true) c.loop-next-test.true
+pub returns-then-len-eq-MOST_OPERATIONS : goal.returns-then-len-eq-MOST_OPERATIONS
+returns-then-len-eq-MOST_OPERATIONS g c =
+    gathered_full g.V.ValueKind.decoded c.args.bytes.now c.args.end 4096 c.args.at _ _ _ c.loop-next.invariant.2 (sym c.len.ensures ∙ c.if-len-eq-MOST_OPERATIONS.true) c.loop-next-test.true
 
-pub returns-in-err-operation : goal.returns-in-err-operation
-returns-in-err-operation g c =
-    let some : vec_len c.loop-next.operations < 4096 = let e = c.len.ensures in let b = c.loop-next.invariant.1 in let l = c.if-len-eq-MOST-OPERATIONS.false in grind arith in
-    exit_error _ _ c.from-residual.result (operation_answer g.V.ValueKind.decoded c.args.bytes.now c.args.end c.loop-next.next) _
-    c.from-residual.ensures.1 c.in-err-operation.ensures.answer
+pub returns-in_err-operation : goal.returns-in_err-operation
+returns-in_err-operation g c =
+    let some : vec_len c.loop-next.operations < 4096 = let e = c.len.ensures in let b = c.loop-next.invariant.1 in let l = c.if-len-eq-MOST_OPERATIONS.false in grind arith in
+    exit_error _ _ c.from_residual.result (operation_answer g.V.ValueKind.decoded c.args.bytes.now c.args.end c.loop-next.next) _
+    c.from_residual.ensures.1 c.in_err-operation.ensures.answer
     (gathered_refused g.V.ValueKind.decoded c.args.bytes.now c.args.end 4096 c.args.at _ _ _ c.loop-next.invariant.2 some c.loop-next-test.true)
 
 pub loop-next-preserved : goal.loop-next-preserved
 loop-next-preserved g c =
-    let some : vec_len c.loop-next.operations < 4096 = let e = c.len.ensures in let b = c.loop-next.invariant.1 in let l = c.if-len-eq-MOST-OPERATIONS.false in grind arith in
-    let put = pushed (c.in-ok-operation.operation ∷ []) refl c.in-ok-push.was c.push.ensures.items in
-    let long : vec_len c.push.new.self ≡ vec_len c.loop-next.operations + 1 = c.in-ok-push.ensures.len in
-    let read = c.in-ok-operation.ensures in (
+    let some : vec_len c.loop-next.operations < 4096 = let e = c.len.ensures in let b = c.loop-next.invariant.1 in let l = c.if-len-eq-MOST_OPERATIONS.false in grind arith in
+    let put = pushed (c.in_ok-operation.operation ∷ []) refl c.in_ok-push.was c.push.ensures.items in
+    let long : vec_len c.push.new.self ≡ vec_len c.loop-next.operations + 1 = c.in_ok-push.ensures.len in
+    let read = c.in_ok-operation.ensures in (
       read.next.1,
       omega (arith, long, some),
       gathered_more g.V.ValueKind.decoded c.args.bytes.now c.args.end 4096 c.args.at _ _ _ c.loop-next.invariant.2 some c.loop-next-test.true _ _ _ _
-          read.answer (ap (map op_of) put ∙ map_push op_of (vec_items c.loop-next.operations) c.in-ok-operation.operation) long read.next.0,
+          read.answer (ap (map op_of) put ∙ map_push op_of (vec_items c.loop-next.operations) c.in_ok-operation.operation) long read.next.0,
     )
 
 pub returns : goal.returns

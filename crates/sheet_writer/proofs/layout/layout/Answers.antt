@@ -31,45 +31,45 @@ returns-then-len-gt65535 g c =
     let long = c.args.sheet.now.script.ok.0 in
     sym (wrong_items p (omega arith) (omega arith) c.if-sheet-lt1.false c.if-sheet-gt32.false (omega arith))
 
-pub returns-in-err-script-at : goal.returns-in-err-script-at
-returns-in-err-script-at g c =
+pub returns-in_err-script_at : goal.returns-in_err-script_at
+returns-in_err-script_at g c =
     let p = parts_of c.args.sheet.now in
     let ok = c.args.sheet.now.initial.ok.0 in
     let long = c.args.sheet.now.script.ok.0 in
-    let q = err_from_is_err_and c.from-residual.result c.from-residual.ensures.1 in
-    let f = c.in-err-script-at.field-0.0 in
-    let ops = ops_at c.operations-end.ensures.answer c.in-err-script-at.was (c.len-locations.ensures ∙ ok) c.deref.ensures.value in
+    let q = err_from_is_err_and c.from_residual.result c.from_residual.ensures.1 in
+    let f = c.in_err-script_at.field-0.0 in
+    let ops = ops_at c.operations_end.ensures.answer c.in_err-script_at.was (c.len-locations.ensures ∙ ok) c.deref.ensures.value in
     q.1 ∙ ap Err q.2 ∙ sym (wrong_operation p (omega arith) (omega arith) c.if-sheet-lt1.false c.if-sheet-gt32.false (omega arith) f ops)
 
-pub returns-in-err-end : goal.returns-in-err-end
-returns-in-err-end g c =
+pub returns-in_err-end : goal.returns-in_err-end
+returns-in_err-end g c =
     let p = parts_of c.args.sheet.now in
     let ok = c.args.sheet.now.initial.ok.0 in
     let long = c.args.sheet.now.script.ok.0 in
-    let q = err_from_is_err_and c.from-residual-in-err-end.result c.from-residual-in-err-end.ensures.1 in
-    let f = c.in-err-end.field-0.0 in
-    let ops = ops_at c.operations-end.ensures.answer c.in-ok-script-at.was (c.len-locations.ensures ∙ ok) c.deref.ensures.value in
-    let items = items_at c.in-ok-script-at.script_at c.script-end.ensures c.in-err-end.was c.deref-2.ensures.value in
-    q.1 ∙ ap Err q.2 ∙ sym (wrong_item p (omega arith) (omega arith) c.if-sheet-lt1.false c.if-sheet-gt32.false (omega arith) c.in-ok-script-at.script_at ops f items)
+    let q = err_from_is_err_and c.from_residual-in_err-end.result c.from_residual-in_err-end.ensures.1 in
+    let f = c.in_err-end.field-0.0 in
+    let ops = ops_at c.operations_end.ensures.answer c.in_ok-script_at.was (c.len-locations.ensures ∙ ok) c.deref.ensures.value in
+    let items = items_at c.in_ok-script_at.script_at c.script_end.ensures c.in_err-end.was c.deref-2.ensures.value in
+    q.1 ∙ ap Err q.2 ∙ sym (wrong_item p (omega arith) (omega arith) c.if-sheet-lt1.false c.if-sheet-gt32.false (omega arith) c.in_ok-script_at.script_at ops f items)
 
-pub returns-then-start-count-len : goal.returns-then-start-count-len
-returns-then-start-count-len g c =
+pub returns-then-start_count-len : goal.returns-then-start_count-len
+returns-then-start_count-len g c =
     let p = parts_of c.args.sheet.now in
     let ok = c.args.sheet.now.initial.ok.0 in
     let long = c.args.sheet.now.script.ok.0 in
-    let ops = ops_at c.operations-end.ensures.answer c.in-ok-script-at.was (c.len-locations.ensures ∙ ok) c.deref.ensures.value in
-    let items = items_at c.in-ok-script-at.script_at c.script-end.ensures c.in-ok-end.was c.deref-2.ensures.value in
-    let starts-are = c.start-count.ensures ∙ ap starts c.deref-3.ensures.value in
+    let ops = ops_at c.operations_end.ensures.answer c.in_ok-script_at.was (c.len-locations.ensures ∙ ok) c.deref.ensures.value in
+    let items = items_at c.in_ok-script_at.script_at c.script_end.ensures c.in_ok-end.was c.deref-2.ensures.value in
+    let starts-are = c.start_count.ensures ∙ ap starts c.deref-3.ensures.value in
     let count_is = c.len-2.ensures ∙ c.args.sheet.now.operations.ok.0 ∙ sym (length-map (vec_items c.args.sheet.now.operations) op_of) in
-    sym (wrong_starts p (omega arith) (omega arith) c.if-sheet-lt1.false c.if-sheet-gt32.false (omega arith) c.in-ok-script-at.script_at ops c.in-ok-end.end items (λ e. c.if-start-count-len.true (omega (arith, e))))
+    sym (wrong_starts p (omega arith) (omega arith) c.if-sheet-lt1.false c.if-sheet-gt32.false (omega arith) c.in_ok-script_at.script_at ops c.in_ok-end.end items (λ e. c.if-start_count-len.true (omega (arith, e))))
 
 pub returns : goal.returns
 returns g c =
     let p = parts_of c.args.sheet.now in
     let ok = c.args.sheet.now.initial.ok.0 in
     let long = c.args.sheet.now.script.ok.0 in
-    let ops = ops_at c.operations-end.ensures.answer c.in-ok-script-at.was (c.len-locations.ensures ∙ ok) c.deref.ensures.value in
-    let items = items_at c.in-ok-script-at.script_at c.script-end.ensures c.in-ok-end.was c.deref-2.ensures.value in
-    let starts-are = c.start-count.ensures ∙ ap starts c.deref-3.ensures.value in
+    let ops = ops_at c.operations_end.ensures.answer c.in_ok-script_at.was (c.len-locations.ensures ∙ ok) c.deref.ensures.value in
+    let items = items_at c.in_ok-script_at.script_at c.script_end.ensures c.in_ok-end.was c.deref-2.ensures.value in
+    let starts-are = c.start_count.ensures ∙ ap starts c.deref-3.ensures.value in
     let count_is = c.len-2.ensures ∙ c.args.sheet.now.operations.ok.0 ∙ sym (length-map (vec_items c.args.sheet.now.operations) op_of) in
-    sym (right_starts p (omega arith) (omega arith) c.if-sheet-lt1.false c.if-sheet-gt32.false (omega arith) c.in-ok-script-at.script_at ops c.in-ok-end.end items (omega arith))
+    sym (right_starts p (omega arith) (omega arith) c.if-sheet-lt1.false c.if-sheet-gt32.false (omega arith) c.in_ok-script_at.script_at ops c.in_ok-end.end items (omega arith))

@@ -3,11 +3,11 @@ use Rattle.std.proofs.lemmas.List.{length-map, get_or-map}
 use Rattle.sheet_format.specs.Parts.{op_of}
 use Rattle.sheet_format.proofs.Counts.{counted_range}
 use Rattle.sheet_writer.proofs.Layouts.{counted_at, too_many, miscounted, ops_on, ops_all}
-use Rattle.sheet_writer.proofs.layout.operations_end.Goals.{then-i-ge-MOST-OPERATIONS-via-then-i-ge-MOST-OPERATIONS, then-i-ge-MOST-OPERATIONS-via-else-i-ge-MOST-OPERATIONS+then-not-counts}
+use Rattle.sheet_writer.proofs.layout.operations_end.Goals.{then-i-ge-MOST_OPERATIONS-via-then-i-ge-MOST_OPERATIONS, then-i-ge-MOST_OPERATIONS-via-else-i-ge-MOST_OPERATIONS+then-not-counts}
 use Rattle.sheet_writer.proofs.layout.operations_end.Goals as goal
 
-pub returns-then-i-ge-MOST-OPERATIONS : goal.returns-then-i-ge-MOST-OPERATIONS
-returns-then-i-ge-MOST-OPERATIONS g c =
+pub returns-then-i-ge-MOST_OPERATIONS : goal.returns-then-i-ge-MOST_OPERATIONS
+returns-then-i-ge-MOST_OPERATIONS g c =
     let ops = c.args.operations.now in
     let i = c.loop-i.i in
     let item = c.index-operations-i.result in
@@ -15,23 +15,23 @@ returns-then-i-ge-MOST-OPERATIONS g c =
     let is = ap op_of c.index-operations-i.is ∙ sym (get_or-map op_of ops i item (op_of item) c.loop-i-test.true) in
     let left = 4096 - i in
     record {
-      answer = sym (elim c.then-i-ge-MOST-OPERATIONS.branch [
-        | then-i-ge-MOST-OPERATIONS-via-then-i-ge-MOST-OPERATIONS w ↦ let e : left ≡ 0 = omega (arith, w.if-i-ge-MOST-OPERATIONS.true) in too_many (map op_of ops) i h (op_of item) is c.loop-i.end left e
-        | then-i-ge-MOST-OPERATIONS-via-else-i-ge-MOST-OPERATIONS+then-not-counts w ↦ miscounted (map op_of ops) i h (op_of item) is c.loop-i.end left
-            (counted_at w.counts.ensures w.if-not-counts.true w.action-kind.ensures c.action-count-count.ensures)
+      answer = sym (elim c.then-i-ge-MOST_OPERATIONS.branch [
+        | then-i-ge-MOST_OPERATIONS-via-then-i-ge-MOST_OPERATIONS w ↦ let e : left ≡ 0 = omega (arith, w.if-i-ge-MOST_OPERATIONS.true) in too_many (map op_of ops) i h (op_of item) is c.loop-i.end left e
+        | then-i-ge-MOST_OPERATIONS-via-else-i-ge-MOST_OPERATIONS+then-not-counts w ↦ miscounted (map op_of ops) i h (op_of item) is c.loop-i.end left
+            (counted_at w.counts.ensures w.if-not-counts.true w.action_kind.ensures c.action_count-count.ensures)
       ])
           ∙ c.loop-i.invariant.2;
       bound = tt;
     }
 
-pub overflow-mul-end : goal.overflow-mul-end
-overflow-mul-end g c = let h = counted_range c.action-kind.result c.action-count-count.result (sym c.if-not-counts.ensures) in search rules
+pub overflow_mul-end : goal.overflow_mul-end
+overflow_mul-end g c = let h = counted_range c.action_kind.result c.action_count-count.result (sym c.if-not-counts.ensures) in search rules
 
-pub overflow-add-end : goal.overflow-add-end
-overflow-add-end g c = let h = counted_range c.action-kind.result c.action-count-count.result (sym c.if-not-counts.ensures) in search rules
+pub overflow_add-end : goal.overflow_add-end
+overflow_add-end g c = let h = counted_range c.action_kind.result c.action_count-count.result (sym c.if-not-counts.ensures) in search rules
 
-pub overflow-add-end-in-loop-i : goal.overflow-add-end-in-loop-i
-overflow-add-end-in-loop-i g c = let h = counted_range c.action-kind.result c.action-count-count.result (sym c.if-not-counts.ensures) in search rules
+pub overflow_add-end-in-loop-i : goal.overflow_add-end-in-loop-i
+overflow_add-end-in-loop-i g c = let h = counted_range c.action_kind.result c.action_count-count.result (sym c.if-not-counts.ensures) in search rules
 
 pub loop-i-preserved : goal.loop-i-preserved
 loop-i-preserved g c =
@@ -40,12 +40,12 @@ loop-i-preserved g c =
     let item = c.index-operations-i.result in
     let h : i < length (map op_of ops) = omega (arith, length-map ops op_of) in
     let is = ap op_of c.index-operations-i.is ∙ sym (get_or-map op_of ops i item (op_of item) c.loop-i-test.true) in
-    let small = counted_range c.action-kind.result c.action-count-count.result (sym c.if-not-counts.ensures) in
+    let small = counted_range c.action_kind.result c.action_count-count.result (sym c.if-not-counts.ensures) in
     let e : 4096 - i ≡ suc (4096 - (i + 1)) = omega arith in (
       omega arith,
       omega arith,
-      ops_on (map op_of ops) i h (op_of item) is c.loop-i.end (4096 - i) (4096 - (i + 1)) c.action-count-count.result e c.action-count-count.ensures
-          (counted_at c.counts.ensures c.if-not-counts.false c.action-kind.ensures c.action-count-count.ensures)
+      ops_on (map op_of ops) i h (op_of item) is c.loop-i.end (4096 - i) (4096 - (i + 1)) c.action_count-count.result e c.action_count-count.ensures
+          (counted_at c.counts.ensures c.if-not-counts.false c.action_kind.ensures c.action_count-count.ensures)
           ∙ c.loop-i.invariant.2,
     )
 

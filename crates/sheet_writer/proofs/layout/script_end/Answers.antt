@@ -3,9 +3,9 @@ use Rattle.sheet_format.specs.Writing.{script_end_lem}
 use Rattle.sheet_writer.proofs.Layouts.{item_wrong, item_on, script_all}
 use Rattle.sheet_writer.proofs.layout.script_end.Goals as goal
 
-pub returns-then-not-is-writable : goal.returns-then-not-is-writable
-returns-then-not-is-writable c =
-    sym (item_wrong c.args.items.now c.loop-i.i (c.args.at + c.loop-i.i) c.loop-i-test.true c.is-writable.result c.is-writable.ensures c.if-not-is-writable.true)
+pub returns-then-not-is_writable : goal.returns-then-not-is_writable
+returns-then-not-is_writable c =
+    sym (item_wrong c.args.items.now c.loop-i.i (c.args.at + c.loop-i.i) c.loop-i-test.true c.is_writable.result c.is_writable.ensures c.if-not-is_writable.true)
     ∙ c.loop-i.invariant
 
 pub loop-i-preserved : goal.loop-i-preserved
@@ -13,7 +13,7 @@ loop-i-preserved c =
     let at = c.args.at + c.loop-i.i in
     let e : c.args.at + (c.loop-i.i + 1) ≡ at + 1 = omega arith in
     ap (λ n. script_end_lem n (drop (c.loop-i.i + 1) c.args.items.now)) e
-    ∙ sym (item_on c.args.items.now c.loop-i.i at c.loop-i-test.true c.is-writable.result c.is-writable.ensures c.if-not-is-writable.false)
+    ∙ sym (item_on c.args.items.now c.loop-i.i at c.loop-i-test.true c.is_writable.result c.is_writable.ensures c.if-not-is_writable.false)
     ∙ c.loop-i.invariant
 
 pub returns : goal.returns

@@ -6,14 +6,14 @@ use Rattle.sheet_format.specs.Parts.{Operands}
 use Rattle.sheet_writer.proofs.Putting.{left_room, left_more, left_all}
 use Rattle.sheet_writer.proofs.puts.put_expected.Goals as goal
 
-pub put-operand-next-requires : goal.put-operand-next-requires
-put-operand-next-requires g c = left_room c.loop-operand.invariant.0 c.loop-operand-test.true c.operand-item.is (ap (operand_bytes c.operand-item.result.location) c.code.ensures) c.loop-operand.auto.out c.requires
+pub put_operand-next-requires : goal.put_operand-next-requires
+put_operand-next-requires g c = left_room c.loop-operand.invariant.0 c.loop-operand-test.true c.operand-item.is (ap (operand_bytes c.operand-item.result.location) c.code.ensures) c.loop-operand.auto.out c.requires
 
 pub loop-operand-preserved : goal.loop-operand-preserved
 loop-operand-preserved g c = (
-  left_more c.loop-operand.invariant.0 c.loop-operand-test.true c.operand-item.is (ap (operand_bytes c.operand-item.result.location) c.code.ensures) c.put-operand-next.ensures.puts,
+  left_more c.loop-operand.invariant.0 c.loop-operand-test.true c.operand-item.is (ap (operand_bytes c.operand-item.result.location) c.code.ensures) c.put_operand-next.ensures.puts,
   All-more (λ o. o.location < 65536) c.args.operands.now c.loop-operand.operand-index c.operand-item.result c.loop-operand-test.true c.loop-operand.invariant.1
-      (subst (λ o. o.location < 65536) c.operand-item.is c.put-operand-next.ensures.fits),
+      (subst (λ o. o.location < 65536) c.operand-item.is c.put_operand-next.ensures.fits),
 )
 
 pub returns : goal.returns

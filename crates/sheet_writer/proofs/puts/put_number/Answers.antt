@@ -5,14 +5,14 @@ use Rattle.sheet_format.proofs.Fields.{bytes_length}
 use Rattle.sheet_writer.proofs.Putting.{put_bytes_of, put_no_bytes}
 use Rattle.sheet_writer.proofs.puts.put_number.Goals as goal
 
-pub overflow-add-out : goal.overflow-add-out
-overflow-add-out c = let w = bytes_length c.args.width c.args.number in search rules
+pub overflow_add-out : goal.overflow_add-out
+overflow_add-out c = let w = bytes_length c.args.width c.args.number in search rules
 
 pub bounds-out-at : goal.bounds-out-at
 bounds-out-at c = omega (arith, bytes_length c.args.width c.args.number)
 
-pub overflow-add-result : goal.overflow-add-result
-overflow-add-result c = let w = bytes_length c.args.width c.args.number in search rules
+pub overflow_add-result : goal.overflow_add-result
+overflow_add-result c = let w = bytes_length c.args.width c.args.number in search rules
 
 pub loop-i-init : goal.loop-i-init
 loop-i-init c =

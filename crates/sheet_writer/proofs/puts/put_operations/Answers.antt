@@ -6,8 +6,8 @@ use Rattle.sheet_format.specs.Parts.{act_of, op_of, Fitting, AllFitting}
 use Rattle.sheet_writer.proofs.Putting.{left_room, left_more, left_all}
 use Rattle.sheet_writer.proofs.puts.put_operations.Goals as goal
 
-pub put-operation-next-requires : goal.put-operation-next-requires
-put-operation-next-requires g c =
+pub put_operation-next-requires : goal.put_operation-next-requires
+put_operation-next-requires g c =
     let ops = c.args.operations.now in
     let i = c.loop-operation.operation-index in
     let item = c.operation-item.result in
@@ -25,8 +25,8 @@ loop-operation-preserved g c =
     let item = c.operation-item.result in
     let h : i < length (map op_of ops) = omega (arith, length-map ops op_of) in
     let is = ap op_of c.operation-item.is ∙ sym (get_or-map op_of ops i item (op_of item) c.loop-operation-test.true) in (
-      left_more c.loop-operation.invariant.0 h is refl c.put-operation-next.ensures.puts,
-      All-more (λ o. Fitting o.act) (map op_of ops) i (op_of item) h c.loop-operation.invariant.1 (subst (λ o. Fitting o.act) is c.put-operation-next.ensures.fits),
+      left_more c.loop-operation.invariant.0 h is refl c.put_operation-next.ensures.puts,
+      All-more (λ o. Fitting o.act) (map op_of ops) i (op_of item) h c.loop-operation.invariant.1 (subst (λ o. Fitting o.act) is c.put_operation-next.ensures.fits),
     )
 
 pub returns : goal.returns
