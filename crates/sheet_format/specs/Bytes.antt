@@ -1,6 +1,6 @@
 -- Numbers as bytes, the lowest byte first, and bytes at the front of an output.
 use Rattle.std.specs.Prelude.{ℕ, zero, suc, ◌+◌, ◌*◌, ◌/◌, ◌%◌, ◌<◌, List, [], ◌∷◌, ◌++◌, length, drop, slice_index}
-use Rattle.std.specs.List.{AllByRecursion as All}
+use Rattle.std.specs.List.{AllByRecursion}
 
 -- the number in the `width` bytes from `at` on
 unfoldable pub field : List ℕ → ℕ → ℕ → ℕ
@@ -18,4 +18,4 @@ overwritten bs out = bs ++ drop (length bs) out
 
 -- each of the numbers lies below a bound
 abbrev pub AllBelow : ℕ → List ℕ → Type 0
-AllBelow bound = All (λ n. n < bound)
+AllBelow bound = AllByRecursion (λ n. n < bound)

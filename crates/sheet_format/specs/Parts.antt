@@ -1,6 +1,6 @@
 -- What a run sheet says, with lists in the place of the code's vectors.
 use Rattle.std.specs.Prelude.{ℕ, ◌<◌, List, map, vec_items}
-use Rattle.std.specs.List.{AllByRecursion as All}
+use Rattle.std.specs.List.{AllByRecursion}
 use Rattle.sheet_format.specs.declared.parts.Operand.{Operand}
 use Rattle.sheet_format.specs.declared.parts.Action.{Action}
 use Rattle.sheet_format.specs.declared.parts.Action.TheVariants.{Read, Ll, Sc, Snapshot, Kcss}
@@ -43,7 +43,7 @@ parts_of s = record { initial = vec_items s.initial; processes = s.processes; op
 -- A location fits two bytes. The code's types see to that; as numbers of these definitions locations have
 -- no bound.
 abbrev pub Operands : {V : Type 0} → List (Operand V) → Type 0
-Operands = All (λ o. o.location < 65536)
+Operands = AllByRecursion (λ o. o.location < 65536)
 
 abbrev pub Fitting : {V : Type 0} → Act V → Type 0
 Fitting (read a) = a < 65536
@@ -53,4 +53,4 @@ Fitting (snapshot locations) = AllBelow 65536 locations
 Fitting (kcss v operands) = Operands operands
 
 abbrev pub AllFitting : {V : Type 0} → List (Op V) → Type 0
-AllFitting = All (λ o. Fitting o.act)
+AllFitting = AllByRecursion (λ o. Fitting o.act)
