@@ -12,7 +12,7 @@ use phases::{Answer, Effect, Finding, Milestone, Operand, Phase, ReadPhase, Read
 use value::ValueKind;
 
 // Where a READ goes from what was seen; none if a saved value is an id, or the access was not the READ's.
-fn read_turn<V: ValueKind>(read: &ReadPhase<V>, seen: &Seen<V>) -> Option<ReadTurn<V>>
+pub fn read_turn<V: ValueKind>(read: &ReadPhase<V>, seen: &Seen<V>) -> Option<ReadTurn<V>>
     ensures { result ≡ read_turn_lem read.now seen.now }
 {
     match (read, seen) {

@@ -33,13 +33,13 @@ impl MemoryFault {
         }
     }
 
-    // The cell for this place does not fit.
-    pub fn unfit(place: usize) -> MemoryFault
-        ensures { result ≡ unfit place }
+    // The cell for place i does not fit.
+    pub fn unfit(i: usize) -> MemoryFault
+        ensures { result ≡ unfit i }
     {
         MemoryFault {
             refusal: MemoryRefusal::Unfit,
-            place,
+            place: i,
         }
     }
 
@@ -55,5 +55,12 @@ impl MemoryFault {
         ensures { result ≡ refusal_number self.now.refusal }
     {
         self.refusal as u8
+    }
+
+    // Where the refusal was met.
+    pub fn place(&self) -> usize
+        ensures { result ≡ self.now.place }
+    {
+        self.place
     }
 }

@@ -2,8 +2,11 @@
 // what `sheet_format`, `sheet_reader` and `sheet_writer` offer to others.
 #![tactic(auto)]
 
+mod trips;
+
 pub use sheet_format::{
     Action, Operand, Operation, ReadError, ScriptItem, Sheet, SheetFault, SheetRefusal,
 };
 pub use sheet_reader::read;
 pub use sheet_writer::write;
+pub use trips::round_trips;

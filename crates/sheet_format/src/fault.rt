@@ -1,7 +1,7 @@
 // Faults of the sheet layer: which refusal, and where.
 ghost use Rattle.std.specs.Prelude.{◌≡◌};
 ghost use Rattle.sheet_format.specs.declared.fault.ReadError.TheVariants.{NoMemory, Fault};
-ghost use Rattle.sheet_format.specs.Faults.{refusal_number};
+ghost use Rattle.sheet_format.specs.Faults.{fault, refusal_number};
 
 use std::alloc::{AllocError, AllocFailed, Global};
 
@@ -25,6 +25,13 @@ pub struct SheetFault {
 }
 
 impl SheetFault {
+    // This refusal at this place.
+    pub fn new(refusal: SheetRefusal, place: usize) -> SheetFault
+        ensures { result ≡ fault refusal place }
+    {
+        SheetFault { refusal, place }
+    }
+
     // The layer that refused.
     pub fn layer(&self) -> u8
         ensures { result ≡ 3 }
