@@ -1,10 +1,8 @@
-pub mod Performing
-pub mod Reading
+pub mod Small
 pub mod Fitting
-pub mod Comparing
-pub mod Asking
-pub mod Linking
-pub mod Collecting
-pub mod Swapping
-pub mod Stepping
-pub mod Starting
+pub mod Compares
+pub mod Collects
+pub mod Singles
+pub mod Wanting
+pub mod Inside
+pub mod Swaps

@@ -1,4 +1,6 @@
 pub mod View
 pub mod Steps
 pub mod Showing
-pub mod Starting
+pub mod Collecting
+pub mod Single
+pub mod Several

@@ -1,6 +1,7 @@
--- What the code knows of a running operation, what it was asked and answers, and what an access sees and changes.
-use Rattle.std.specs.Prelude.{◌≡◌, ℕ, Bool, true, false, List, [], ◌∷◌, Some, None, Option, ◌≢◌}
+-- What the code knows of a running operation, what a line records there, and what an access sees and changes.
+use Rattle.std.specs.Prelude.{◌≡◌, ℕ, zero, suc, Bool, true, false, List, [], ◌∷◌, Some, None, Option, ◌≢◌}
 use Rattle.std.proofs.Math.Option as maybe
+use Rattle.memory.specs.declared.cell.TaggedId.{TaggedId}
 use Rattle.memory.specs.declared.cell.Cell.{Cell}
 use Rattle.operation.specs.declared.kind.OperationKind.{OperationKind}
 use Rattle.operation.specs.declared.kind.OperationKind.TheVariants.{Read, Ll, Sc, Snapshot, Kcss}
@@ -13,8 +14,14 @@ use Rattle.phases.specs.declared.records.Access.{Access}
 use Rattle.phases.specs.declared.records.Access.TheVariants.{Load, Store, Cas}
 use Rattle.phases.specs.declared.records.Seen.{Seen}
 use Rattle.phases.specs.declared.records.Seen.TheVariants.{Found, Stored, Said}
+use Rattle.phases.specs.declared.turn.Finding.{Finding}
+use Rattle.phases.specs.declared.turn.Finding.TheVariants as finding
+use Rattle.phases.specs.declared.turn.Effect.{Effect}
+use Rattle.phases.specs.declared.turn.Effect.TheVariants.{Here, AtMark, AtCollect}
 use Rattle.phases.specs.declared.turn.Answer as lines-answer
 use Rattle.phases.specs.declared.turn.Answer.TheVariants.{Values, Yes, No}
+use Rattle.phases.specs.declared.turn.Milestone.{Milestone}
+use Rattle.phases.specs.declared.turn.Milestone.TheVariants.{Plain, Marked, Collected}
 use Rattle.protocol.specs.World.{World, changed}
 use Rattle.protocol.specs.Operations.{Expected, Request, Answer}
 use Rattle.protocol.specs.Operations.Request.{read, ll, sc, snapshot, kcss}
@@ -53,14 +60,83 @@ Performing w (Store place c) P = P Stored (put w place c)
 Performing w (Cas place old new) P =
     (cell_at w place ≡ old → P (Said true) (put w place new)) × ((cell_at w place ≢ old) → P (Said false) (cells_of w))
 
--- What there is, is as P says; if there is nothing, N holds.
-abbrev pub Having : {A : Type 0} → Type 0 → Option A → (A → Type 0) → Type 0
-Having N None P = N
-Having N (Some x) P = P x
-
 -- There is something, and it is as P says.
 abbrev pub Gives : {A : Type 0} → Option A → (A → Type 0) → Type 0
-Gives = Having ⊥
+Gives None P = ⊥
+Gives (Some x) P = P x
+
+-- If there is something, it is as P says.
+abbrev pub When : {A : Type 0} → Option A → (A → Type 0) → Type 0
+When None P = Unit {0}
+When (Some x) P = P x
+
+-- A line's finding is recorded in the operand.
+abbrev pub at_operand : {V : Type 0} → ℕ → (Operand V → Operand V) → List (Operand V) → List (Operand V)
+at_operand i f [] = []
+at_operand zero f (o ∷ rest) = f o ∷ rest
+at_operand (suc i) f (o ∷ rest) = o ∷ at_operand i f rest
+
+abbrev pub put_first : {V : Type 0} → V → Operand V → Operand V
+put_first v o = record {
+  location = o.location;
+  expected = o.expected;
+  first = Some v;
+  second = o.second;
+  first_id = o.first_id;
+  second_id = o.second_id;
+}
+
+abbrev pub put_second : {V : Type 0} → V → Operand V → Operand V
+put_second v o = record {
+  location = o.location;
+  expected = o.expected;
+  first = o.first;
+  second = Some v;
+  first_id = o.first_id;
+  second_id = o.second_id;
+}
+
+abbrev pub put_first_id : {V : Type 0} → TaggedId → Operand V → Operand V
+put_first_id i o = record {
+  location = o.location;
+  expected = o.expected;
+  first = o.first;
+  second = o.second;
+  first_id = i;
+  second_id = o.second_id;
+}
+
+abbrev pub put_second_id : {V : Type 0} → TaggedId → Operand V → Operand V
+put_second_id i o = record {
+  location = o.location;
+  expected = o.expected;
+  first = o.first;
+  second = o.second;
+  first_id = o.first_id;
+  second_id = i;
+}
+
+abbrev pub recorded : {V : Type 0} → Finding V → List (Operand V) → List (Operand V)
+recorded finding.Nothing operands = operands
+recorded (finding.FirstId i id) operands = at_operand i (put_first_id id) operands
+recorded (finding.First i v) operands = at_operand i (put_first v) operands
+recorded (finding.Second i v) operands = at_operand i (put_second v) operands
+recorded (finding.SecondId i id) operands = at_operand i (put_second_id id) operands
+
+-- The tag is raised before the first 13 of a fresh attempt.
+abbrev pub raised : {V : Type 0} → Phase V → ℕ → ℕ
+raised Idle n = n
+raised (Reading s) n = n
+raised Attempt n = suc n
+raised (Linking s) n = n
+raised (Save kept) n = n
+raised (Mark kept) n = n
+raised (Note kept) n = n
+raised (FirstId operand) n = n
+raised (FirstCollect operand s) n = n
+raised (SecondCollect operand s) n = n
+raised (SecondId operand) n = n
+raised Swap n = n
 
 -- A line that goes on to a fresh attempt is an 8, or else an 11.
 abbrev pub fails : {V : Type 0} → Phase V → Bool
@@ -77,17 +153,30 @@ fails (SecondCollect operand s) = false
 fails (SecondId operand) = false
 fails Swap = false
 
+-- The step of the last 8 that said yes, and the step that ended the last first collect, after step t.
+abbrev pub marked_after : Milestone → (t marked : ℕ) → ℕ
+marked_after Plain t m = m
+marked_after Marked t m = t
+marked_after Collected t m = m
+
+abbrev pub collected_after : Milestone → (t collected : ℕ) → ℕ
+collected_after Plain t c = c
+collected_after Marked t c = c
+collected_after Collected t c = t
+
+-- The effect step of an operation that ends at step t.
+abbrev pub effect_step : Effect → (t marked collected : ℕ) → ℕ
+effect_step Here t m c = t
+effect_step AtMark t m c = m
+effect_step AtCollect t m c = c
+
 abbrev pub and_then : {A B : Type 0} → Option A → (A → Option B) → Option B
 and_then None f = None
 and_then (Some x) f = f x
 
--- What every operand has of a thing, if each has it.
-abbrev pub gather : {V A : Type 0} → (Operand V → Option A) → List (Operand V) → Option (List A)
-gather has [] = Some []
-gather has (o ∷ rest) = and_then (has o) (λ x. and_then (gather has rest) (λ more. Some (x ∷ more)))
-
 abbrev pub firsts : {V : Type 0} → List (Operand V) → Option (List V)
-firsts = gather (λ o. o.first)
+firsts [] = Some []
+firsts (o ∷ rest) = and_then o.first (λ v. and_then (firsts rest) (λ more. Some (v ∷ more)))
 
 abbrev pub locations : {V : Type 0} → List (Operand V) → List ℕ
 locations [] = []
@@ -97,7 +186,8 @@ abbrev pub wanted : {V : Type 0} → Operand V → Option (Expected V)
 wanted o = and_then o.expected (λ v. Some (record { location = o.location; value = v }))
 
 abbrev pub all_wanted : {V : Type 0} → List (Operand V) → Option (List (Expected V))
-all_wanted = gather wanted
+all_wanted [] = Some []
+all_wanted (o ∷ rest) = and_then (wanted o) (λ e. and_then (all_wanted rest) (λ more. Some (e ∷ more)))
 
 -- What a running operation was asked.
 abbrev pub request_of : {V : Type 0} → OperationKind → List (Operand V) → Option V → Option (Request V)

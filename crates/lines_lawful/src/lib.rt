@@ -1,31 +1,54 @@
 // The lines as code and the lines as a relation: each step that the pure functions of crate lines say a process makes
-// is a line of the relation of crate protocol, and each Start is one of its Starts. It is proof alone: each theorem is
-// the contract of a function that does nothing else.
+// is a line of the relation of crate protocol. It is proof alone: each theorem is the contract of a function that does
+// nothing else.
 #![tactic(auto)]
 
-ghost use Rattle.lines_lawful.specs.Steps.{MakesLines, NeverSticks};
-ghost use Rattle.lines_lawful.specs.Starting.{StartsBegin};
-ghost use Rattle.lines_lawful.specs.Showing.{Shows};
+ghost use Rattle.lines_lawful.specs.Steps.{MakesLines};
+ghost use Rattle.lines_lawful.specs.Showing.{ShowsRead, ShowsLl, ShowsSc};
+ghost use Rattle.lines_lawful.specs.Collecting.{ShowsSnapshot};
+ghost use Rattle.lines_lawful.specs.Single.{ShowsSingle};
+ghost use Rattle.lines_lawful.specs.Several.{ShowsKcss};
 
 use value::ValueKind;
 
-// Each step of an operation of any kind is a line of the relation.
-pub fn steps_make_lines<V: ValueKind>() -> u8
-    ensures { MakesLines {V = V} V.coded Shows }
+// Each step of a READ is a line of the relation.
+pub fn reads_make_lines<V: ValueKind>() -> u8
+    ensures { MakesLines {V = V} V.coded ShowsRead }
 {
     0
 }
 
-// In a sound world an operation always has a next step, which is a line of the relation.
-pub fn steps_never_stick<V: ValueKind>() -> u8
-    ensures { NeverSticks {V = V} V.coded Shows }
+// Each step of an LL is a line of the relation.
+pub fn lls_make_lines<V: ValueKind>() -> u8
+    ensures { MakesLines {V = V} V.coded ShowsLl }
 {
     0
 }
 
-// A Start of an operation of any kind is a Start of the relation.
-pub fn starts_begin<V: ValueKind>() -> u8
-    ensures { StartsBegin {V = V} Shows }
+// The step of an SC is a line of the relation.
+pub fn scs_make_lines<V: ValueKind>() -> u8
+    ensures { MakesLines {V = V} V.coded ShowsSc }
+{
+    0
+}
+
+// Each step of a SNAPSHOT is a line of the relation.
+pub fn snapshots_make_lines<V: ValueKind>() -> u8
+    ensures { MakesLines {V = V} V.coded ShowsSnapshot }
+{
+    0
+}
+
+// Each step of a KCSS of one location is a line of the relation.
+pub fn single_kcss_make_lines<V: ValueKind>() -> u8
+    ensures { MakesLines {V = V} V.coded ShowsSingle }
+{
+    0
+}
+
+// Each step of a KCSS of two or more locations is a line of the relation.
+pub fn kcss_make_lines<V: ValueKind>() -> u8
+    ensures { MakesLines {V = V} V.coded ShowsKcss }
 {
     0
 }

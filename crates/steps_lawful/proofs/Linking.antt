@@ -28,19 +28,19 @@ use Rattle.protocol.specs.Phases.{Job, place_of}
 use Rattle.protocol.specs.Phases.Phase.{attempt, attempt_again, linking, to_mark, to_note}
 use Rattle.protocol.specs.Lines.Line.{attempt_value, attempt_id, again_value, again_id, link_on, link_got, line_7}
 use Rattle.protocol.specs.Lines.Line.{line_8_yes, line_8_no, line_9_ll, line_9_one, line_9_more}
-use Rattle.lines_lawful.specs.View.{Running, Cells, cells_of, put}
-use Rattle.lines_lawful.specs.View.Running.{runs}
-use Rattle.lines_lawful.specs.Steps.{Goes, Steps}
-use Rattle.lines_lawful.specs.Showing.{read_phase, Links, LinkPhase, Shows}
-use Rattle.lines_lawful.specs.Showing.Links.{links_ll, links_kcss}
-use Rattle.lines_lawful.specs.Showing.LinkPhase.{at_attempt, at_again, at_read, at_7, at_8, at_9}
-use Rattle.lines_lawful.specs.Showing.Collects.{collects_kcss}
-use Rattle.lines_lawful.specs.Showing.CollectPhase.{at_s6}
-use Rattle.lines_lawful.specs.Showing.Shows.{shows_link, shows_collect, shows_swap}
-use Rattle.lines_lawful.proofs.Performing.{Stuck}
-use Rattle.lines_lawful.proofs.Fitting.{headed}
-use Rattle.lines_lawful.proofs.Reading.{ReadBy, by_reading}
-use Rattle.lines_lawful.proofs.Reading.ReadBy.{goes_on, ends, sticks}
+use Rattle.steps_lawful.specs.View.{Running, Cells, cells_of, put}
+use Rattle.steps_lawful.specs.View.Running.{runs}
+use Rattle.steps_lawful.specs.Steps.{Goes, Steps}
+use Rattle.steps_lawful.specs.Showing.{read_phase, Links, LinkPhase, Shows}
+use Rattle.steps_lawful.specs.Showing.Links.{links_ll, links_kcss}
+use Rattle.steps_lawful.specs.Showing.LinkPhase.{at_attempt, at_again, at_read, at_7, at_8, at_9}
+use Rattle.steps_lawful.specs.Showing.Collects.{collects_kcss}
+use Rattle.steps_lawful.specs.Showing.CollectPhase.{at_s6}
+use Rattle.steps_lawful.specs.Showing.Shows.{shows_link, shows_collect, shows_swap}
+use Rattle.steps_lawful.proofs.Performing.{Stuck}
+use Rattle.steps_lawful.proofs.Fitting.{headed}
+use Rattle.steps_lawful.proofs.Reading.{ReadBy, by_reading}
+use Rattle.steps_lawful.proofs.Reading.ReadBy.{goes_on, ends, sticks}
 
 -- its access is at the location of what it is made for
 opened : {V : Type 0} {kind : OperationKind} {ops : List (Operand V)} {new : Option V} {J : Job V} → Links kind ops new J → (g : ℕ → Line × Access V)

@@ -21,16 +21,16 @@ use Rattle.protocol.specs.Runs.{Begins}
 use Rattle.protocol.specs.Runs.Begins.{begins_read, begins_ll, begins_sc, begins_snapshot, begins_kcss}
 use Rattle.protocol.specs.Opening.{Allowed}
 use Rattle.protocol.proofs.Changes.{clash}
-use Rattle.lines_lawful.specs.View.{and_then, gather, wanted, all_wanted, request_of}
-use Rattle.lines_lawful.specs.View.Running.{runs}
-use Rattle.lines_lawful.specs.Showing.{Fits, Shows}
-use Rattle.lines_lawful.specs.Showing.Links.{links_ll, links_kcss}
-use Rattle.lines_lawful.specs.Showing.LinkPhase.{at_attempt}
-use Rattle.lines_lawful.specs.Showing.Collects.{collects_snapshot}
-use Rattle.lines_lawful.specs.Showing.CollectPhase.{at_s6}
-use Rattle.lines_lawful.specs.Showing.Shows.{shows_read, shows_link, shows_sc, shows_collect}
-use Rattle.lines_lawful.specs.Starting.{link_at_start, StartsBegin}
-use Rattle.lines_lawful.proofs.Asking.{asked_snapshot, asked_kcss}
+use Rattle.steps_lawful.specs.View.{and_then, gather, wanted, all_wanted, request_of}
+use Rattle.steps_lawful.specs.View.Running.{runs}
+use Rattle.steps_lawful.specs.Showing.{Fits, Shows}
+use Rattle.steps_lawful.specs.Showing.Links.{links_ll, links_kcss}
+use Rattle.steps_lawful.specs.Showing.LinkPhase.{at_attempt}
+use Rattle.steps_lawful.specs.Showing.Collects.{collects_snapshot}
+use Rattle.steps_lawful.specs.Showing.CollectPhase.{at_s6}
+use Rattle.steps_lawful.specs.Showing.Shows.{shows_read, shows_link, shows_sc, shows_collect}
+use Rattle.steps_lawful.specs.Starting.{link_at_start, StartsBegin}
+use Rattle.steps_lawful.proofs.Asking.{asked_snapshot, asked_kcss}
 
 -- what was there, where something followed from it
 there : {A B : Type 0} (x : Option A) (f : A → Option B) (y : B) → and_then x f ≡ Some y → (z : A) × (x ≡ Some z) × (f z ≡ Some y)

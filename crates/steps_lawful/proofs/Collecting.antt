@@ -35,19 +35,19 @@ use Rattle.protocol.specs.Phases.Process.{proc}
 use Rattle.protocol.specs.Lines.Line.{s6_on, s6_end, c1_on, c1_got, c1_end, c2_on, c2_got, c2_end, s9_on, s9_again, s9_solo, s9_inside}
 use Rattle.protocol.specs.Sound.{CellsSound}
 use Rattle.protocol.proofs.Changes.{clash}
-use Rattle.lines_lawful.specs.View.{Cells, cells_of, Having, and_then, link_after}
-use Rattle.lines_lawful.specs.View.Running.{runs}
-use Rattle.lines_lawful.specs.Steps.{Makes, Goes, Steps}
-use Rattle.lines_lawful.specs.Showing.{read_phase, Agree, Fits, Collects, CollectPhase, Shows}
-use Rattle.lines_lawful.specs.Showing.Collects.{collects_snapshot, collects_kcss}
-use Rattle.lines_lawful.specs.Showing.CollectPhase.{at_s6, at_first, at_second, at_s9}
-use Rattle.lines_lawful.specs.Showing.Shows.{shows_collect, shows_swap}
-use Rattle.lines_lawful.proofs.Performing.{Stuck}
-use Rattle.lines_lawful.proofs.Fitting.{length_at, refit, fewer, with_first_agrees, with_second_agrees, with_first_id_agrees, with_second_id_agrees}
-use Rattle.lines_lawful.proofs.Comparing.{same_rows, moved_rows}
-use Rattle.lines_lawful.proofs.Asking.{kept_asked, asked_snapshot, collected_snapshot}
-use Rattle.lines_lawful.proofs.Reading.{ReadBy, by_reading}
-use Rattle.lines_lawful.proofs.Reading.ReadBy.{goes_on, ends, sticks}
+use Rattle.steps_lawful.specs.View.{Cells, cells_of, Having, and_then, link_after}
+use Rattle.steps_lawful.specs.View.Running.{runs}
+use Rattle.steps_lawful.specs.Steps.{Makes, Goes, Steps}
+use Rattle.steps_lawful.specs.Showing.{read_phase, Agree, Fits, Collects, CollectPhase, Shows}
+use Rattle.steps_lawful.specs.Showing.Collects.{collects_snapshot, collects_kcss}
+use Rattle.steps_lawful.specs.Showing.CollectPhase.{at_s6, at_first, at_second, at_s9}
+use Rattle.steps_lawful.specs.Showing.Shows.{shows_collect, shows_swap}
+use Rattle.steps_lawful.proofs.Performing.{Stuck}
+use Rattle.steps_lawful.proofs.Fitting.{length_at, refit, fewer, with_first_agrees, with_second_agrees, with_first_id_agrees, with_second_id_agrees}
+use Rattle.steps_lawful.proofs.Comparing.{same_rows, moved_rows}
+use Rattle.steps_lawful.proofs.Asking.{kept_asked, asked_snapshot, collected_snapshot}
+use Rattle.steps_lawful.proofs.Reading.{ReadBy, by_reading}
+use Rattle.steps_lawful.proofs.Reading.ReadBy.{goes_on, ends, sticks}
 
 module _ {V : Type 0} where
   -- its access is at the location of operand j

@@ -25,12 +25,12 @@ use Rattle.protocol.specs.Lines.ReadLine.{line_13_value, line_13_id, line_1_valu
 use Rattle.protocol.specs.Lines.Line.{read_on, read_got}
 use Rattle.protocol.specs.Sound.{ReadSound}
 use Rattle.protocol.proofs.Changes.{clash}
-use Rattle.lines_lawful.specs.View.{Cells, cells_of, Performing}
-use Rattle.lines_lawful.specs.View.Running.{runs}
-use Rattle.lines_lawful.specs.Steps.{Goes, Steps}
-use Rattle.lines_lawful.specs.Showing.{read_phase, Shows}
-use Rattle.lines_lawful.specs.Showing.Shows.{shows_read}
-use Rattle.lines_lawful.proofs.Performing.{Stuck, performing}
+use Rattle.steps_lawful.specs.View.{Cells, cells_of, Performing}
+use Rattle.steps_lawful.specs.View.Running.{runs}
+use Rattle.steps_lawful.specs.Steps.{Goes, Steps}
+use Rattle.steps_lawful.specs.Showing.{read_phase, Shows}
+use Rattle.steps_lawful.specs.Showing.Shows.{shows_read}
+use Rattle.steps_lawful.proofs.Performing.{Stuck, performing}
 
 -- What process p makes of what it saw in a READ of location a. goes_on: a line that leads to another, and nothing is
 -- recorded. ends: a line with a value, which is recorded. sticks: none, as what the READ has kept is not sound.

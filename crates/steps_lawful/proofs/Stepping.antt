@@ -3,16 +3,16 @@ use Rattle.std.proofs.Common.{◌≡◌, ℕ, Some, Option, sym, ap, ◌∙◌, 
 use mathlib.Core.Option as maybe
 use Rattle.protocol.specs.World.{World}
 use Rattle.protocol.specs.Phases.{Phase}
-use Rattle.lines_lawful.specs.View.{Running}
-use Rattle.lines_lawful.specs.Steps.{Steps, MakesLines, NeverSticks}
-use Rattle.lines_lawful.specs.Showing.{Shows}
-use Rattle.lines_lawful.specs.Showing.Shows.{shows_read, shows_link, shows_sc, shows_collect, shows_swap}
-use Rattle.lines_lawful.proofs.Performing.{Stuck}
-use Rattle.lines_lawful.proofs.Fitting.{has}
-use Rattle.lines_lawful.proofs.Reading.{reading_steps}
-use Rattle.lines_lawful.proofs.Linking.{link_steps}
-use Rattle.lines_lawful.proofs.Collecting.{collect_steps}
-use Rattle.lines_lawful.proofs.Swapping.{sc_steps, swap_steps}
+use Rattle.steps_lawful.specs.View.{Running}
+use Rattle.steps_lawful.specs.Steps.{Steps, MakesLines, NeverSticks}
+use Rattle.steps_lawful.specs.Showing.{Shows}
+use Rattle.steps_lawful.specs.Showing.Shows.{shows_read, shows_link, shows_sc, shows_collect, shows_swap}
+use Rattle.steps_lawful.proofs.Performing.{Stuck}
+use Rattle.steps_lawful.proofs.Fitting.{has}
+use Rattle.steps_lawful.proofs.Reading.{reading_steps}
+use Rattle.steps_lawful.proofs.Linking.{link_steps}
+use Rattle.steps_lawful.proofs.Collecting.{collect_steps}
+use Rattle.steps_lawful.proofs.Swapping.{sc_steps, swap_steps}
 
 module _ {V : Type 0} (code : V → ℕ) (decoded : ℕ → Option V) (returned : (x : V) → decoded (code x) ≡ Some x) where
   -- values with one code are one

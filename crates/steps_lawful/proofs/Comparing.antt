@@ -9,8 +9,8 @@ use Rattle.lines.specs.Comparing.{operand_at, same_ids, same_values_lem, still, 
 use Rattle.lines.specs.Suiting.{snapshot_from_lem}
 use Rattle.protocol.specs.Phases.{Rows, Same, Meets}
 use Rattle.protocol.proofs.Changes.{clash}
-use Rattle.lines_lawful.specs.Showing.{Agree, Fits}
-use Rattle.lines_lawful.proofs.Fitting.{has, below, dropped}
+use Rattle.steps_lawful.specs.Showing.{Agree, Fits}
+use Rattle.steps_lawful.proofs.Fitting.{has, below, dropped}
 
 -- A test of every operand, as the code makes it.
 module _ {V : Type 0} (test : Operand V → Bool) (every : List (Operand V) → Bool) (none : every [] ≡ true)

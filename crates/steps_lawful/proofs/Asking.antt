@@ -9,9 +9,9 @@ use Rattle.lines.specs.Suiting.{snapshot_from_lem}
 use Rattle.lines.specs.Recording.{at_operand, put_second_id}
 use Rattle.protocol.specs.Operations.Request.{snapshot}
 use Rattle.protocol.specs.Phases.{Rows, places, collected, wants, kcss_of}
-use Rattle.lines_lawful.specs.View.{gather, firsts, locations, wanted, request_of}
-use Rattle.lines_lawful.specs.Showing.{Agree, Fits}
-use Rattle.lines_lawful.proofs.Fitting.{dropped, counted}
+use Rattle.steps_lawful.specs.View.{gather, firsts, locations, wanted, request_of}
+use Rattle.steps_lawful.specs.Showing.{Agree, Fits}
+use Rattle.steps_lawful.proofs.Fitting.{dropped, counted}
 
 module _ {V A : Type 0} (has : Operand V → Option A) (what : ℕ → A) (list : ℕ → ℕ → List A) (none : (i : ℕ) → list i 0 ≡ [])
     (more : (i k : ℕ) → list i (suc k) ≡ what i ∷ list (suc i) k) where

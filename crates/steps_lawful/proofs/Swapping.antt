@@ -14,16 +14,16 @@ use Rattle.protocol.specs.World.{World, id_cell}
 use Rattle.protocol.specs.Phases.{Rows}
 use Rattle.protocol.specs.Phases.Phase.{swap_sc, swap}
 use Rattle.protocol.specs.Lines.Line.{sc_yes, sc_no, kcss_one, kcss_yes, kcss_retry, kcss_first, kcss_first_gone, kcss_other, kcss_other_gone}
-use Rattle.lines_lawful.specs.View.{Running, put}
-use Rattle.lines_lawful.specs.View.Running.{runs}
-use Rattle.lines_lawful.specs.Steps.{Goes, Steps}
-use Rattle.lines_lawful.specs.Showing.{Fits, collected_at, Shows}
-use Rattle.lines_lawful.specs.Showing.Links.{links_kcss}
-use Rattle.lines_lawful.specs.Showing.LinkPhase.{at_attempt}
-use Rattle.lines_lawful.specs.Showing.Shows.{shows_link}
-use Rattle.lines_lawful.proofs.Fitting.{fewer}
-use Rattle.lines_lawful.proofs.Comparing.{same_true, same_false, met_rows, unmet_row}
-use Rattle.lines_lawful.proofs.Asking.{asked_kcss}
+use Rattle.steps_lawful.specs.View.{Running, put}
+use Rattle.steps_lawful.specs.View.Running.{runs}
+use Rattle.steps_lawful.specs.Steps.{Goes, Steps}
+use Rattle.steps_lawful.specs.Showing.{Fits, collected_at, Shows}
+use Rattle.steps_lawful.specs.Showing.Links.{links_kcss}
+use Rattle.steps_lawful.specs.Showing.LinkPhase.{at_attempt}
+use Rattle.steps_lawful.specs.Showing.Shows.{shows_link}
+use Rattle.steps_lawful.proofs.Fitting.{fewer}
+use Rattle.steps_lawful.proofs.Comparing.{same_true, same_false, met_rows, unmet_row}
+use Rattle.steps_lawful.proofs.Asking.{asked_kcss}
 
 -- with other operands, the step that ended the first collect is the code's
 ended : (k c g : ℕ) → 0 < k → g ≡ collected_at k c → g ≡ c

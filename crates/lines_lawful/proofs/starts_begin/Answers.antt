@@ -1,5 +1,0 @@
-use Rattle.lines_lawful.proofs.starts_begin.Goals as goal
-use Rattle.lines_lawful.proofs.Starting.{starts_begin}
-
-pub returns : goal.returns
-returns g c = starts_begin

@@ -1,0 +1,10 @@
+pub mod Performing
+pub mod Reading
+pub mod Fitting
+pub mod Comparing
+pub mod Asking
+pub mod Linking
+pub mod Collecting
+pub mod Swapping
+pub mod Stepping
+pub mod Starting
