@@ -12,8 +12,8 @@ use Rattle.protocol.specs.Events.{Event}
 use Rattle.protocol.specs.Lines.{Line}
 use Rattle.protocol.specs.Runs.{Machine, world, Given, Begun, turned}
 use Rattle.protocol.specs.Remaining.{beyond, beyond_lost, Rest, LeftIn, Left}
-use Rattle.protocol.specs.Solo.{job_bound, purpose_bound, phase_bound, bound, PhaseFits, Fits, Remaining, Falls, Alone, SoloBounds}
-use Rattle.protocol.specs.Solo.Alone.{no_line, then_starts, then_line}
+use Rattle.protocol.specs.Solo.{job_bound, purpose_bound, phase_bound, bound, PhaseFits, Fits, Remaining, Falls, Alone, SoloEnds, SoloBounds, AloneTo, SoloEndsTo}
+use Rattle.protocol.specs.Solo.AloneTo.{no_line, then_starts, then_line}
 use Rattle.protocol.proofs.Changes.{changed_here}
 use Rattle.protocol.proofs.Costing.{high, costs_high, costs_above, costs_but, reads_some, reads_7}
 use Rattle.protocol.proofs.Falling.{fall}
@@ -118,7 +118,7 @@ module _ {V : Type 0} (p M : ℕ) (m : Machine V) where
   with_line N b s e r l (zero, i, h) = absurd (measure.not_zero p b h)
   with_line N b s e r l (suc K, i, h) = (K, omega arith, measure.falls s p K b e r l h)
 
-  less : {N : ℕ} {b : Machine V} → Remaining m p M → Alone p m N b → Less N b
+  less : {N : ℕ} {b : Machine V} → Remaining m p M → AloneTo p m N b → Less N b
   less h no_line = (M, omega arith, h)
   less h (then_starts {N = N} a s u) = with_starts N u (less h a)
   less h (then_line {N = N} {b = b} a s e r l) = with_line N b s e r l (less h a)
@@ -127,5 +127,17 @@ module _ {V : Type 0} (p M : ℕ) (m : Machine V) where
   fewer N b (zero, i, h) = absurd (measure.not_zero p b h)
   fewer N b (suc K, i, h) = omega arith
 
+pub ends_to : {V : Type 0} → SoloEndsTo V
+ends_to p N m b f a = let M = bound (m.processes p) in fewer p M m N b (less p M m (measure.within_bound p m f) a)
+
+-- after K lines, N more
+more_to : {V : Type 0} (p N K : ℕ) (m b : Machine V) → AloneTo p m K b → Alone p N b → (L : ℕ) × (b' : Machine V) × (L ≡ N + K) × AloneTo p m L b'
+more_to p zero K m b a c = (K, b, omega arith, a)
+more_to p (suc N) K m b a (t, e, r, l, c) =
+    let d = more_to p N (suc K) m (turned b e p r) (then_line a t e r l) c in (d.0, d.1, (let h = d.2 in omega arith), d.3)
+
+ends : {V : Type 0} → SoloEnds V
+ends p N m f c = let d = more_to p N 0 m m no_line c in let e = d.2 in let h = ends_to p d.0 m d.1 f d.3 in omega arith
+
 pub bounds : {V : Type 0} → SoloBounds V
-bounds = record { measure = measure; ends = λ p N m b f a. let M = bound (m.processes p) in fewer p M m N b (less p M m (measure.within_bound p m f) a) }
+bounds = record { measure = measure; ends = ends }

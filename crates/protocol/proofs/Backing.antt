@@ -79,8 +79,8 @@ begins_sound : {V : Type 0} (saved : ℕ → Cell V) (p : ℕ) {t : ℕ} {r r' :
 begins_sound saved p (begins_read a) = tt
 begins_sound saved p (begins_ll a) = refl
 begins_sound saved p (begins_sc a u) = refl
-begins_sound saved p (begins_snapshot rows k o) = tt
-begins_sound saved p (begins_kcss a x u rows k o) = refl
+begins_sound saved p (begins_snapshot rows k) = tt
+begins_sound saved p (begins_kcss a x u rows k) = refl
 
 pub begun_sound : {V : Type 0} {t : ℕ} {m m' : Machine V} {list : List (Given V)} → Begun t m list m' → AllSound m → AllSound m'
 begun_sound no_more S = S

@@ -4,10 +4,10 @@ use mathlib.Core.Option.{Option, some}
 use native.Mathlib.Decide.{ℕ_discrete, dec_le}
 use Rattle.protocol.specs.Events.{Event, maker}
 use Rattle.protocol.specs.Events.Event.{reset}
-use Rattle.protocol.specs.Operations.{Finished}
+use Rattle.protocol.specs.Operations.{Request, Finished}
 use Rattle.protocol.specs.Operations.Request.{sc}
 use Rattle.protocol.specs.Phases.{Done}
-use Rattle.protocol.specs.Runs.{Machine, Given, WasGiven, Call, Run, IsLine, Makes, finished}
+use Rattle.protocol.specs.Runs.{Machine, Given, WasGiven, Call, Run, MakesLine, Makes, IsLine, IsLineOf, finished}
 use Rattle.protocol.specs.Runs.Call.{steps, pauses}
 use Rattle.protocol.specs.Lists.{◌∈◌}
 use Rattle.protocol.specs.Order.{MarkWasReset}
@@ -32,46 +32,64 @@ module _ {V : Type 0} {t p : ℕ} {m m' : Machine V} where
   reset_is_line (steps l b y r e d x i) h = tt
   reset_is_line (pauses i) h = clash (cc)
 
+  makes_line : {list : List (Given V)} {e : Event V} {d : Option (Done V)} (c : Call t p m m' list e d) → IsLine c → MakesLine t p m list e d
+  makes_line (steps l b y r e d x i) h = (b, r, y, x)
+  makes_line (pauses i) h = absurd h
+
 module _ {V : Type 0} (R : Run V) (n : ℕ) where
-  makes_or_not : (p t : ℕ) → Dec (Makes R t p)
+  makes_or_not : (p t : ℕ) → Dec (IsLineOf R t p)
   makes_or_not p t =
       elim (ℕ_discrete (R.who t) p) [
         | no h ↦ no (λ x. h x.0)
         | yes e ↦ elim (line_or_pause (R.call t)) [ yes l ↦ yes (e, l) | no h ↦ no (λ x. h x.1) ]
       ]
 
-  effect_is_line : (o : Finished V) → o ∈ finished R n → Makes R o.effect o.process
-  effect_is_line o m = subst (Makes R o.effect) (sound R n o m).1 (over_of R n o m).mine.by
+  makes_of : (t p : ℕ) → IsLineOf R t p → Makes R t p
+  makes_of t p h = subst (Makes R t) h.0 (makes_line (R.call t) h.1)
 
-  its_first : (o : Finished V) (m : o ∈ finished R n) → First (λ t. Makes R t o.process) (over_of R n o m).b o.effect
+  effect_is_own_line : (o : Finished V) → o ∈ finished R n → IsLineOf R o.effect o.process
+  effect_is_own_line o m = subst (IsLineOf R o.effect) (sound R n o m).1 (over_of R n o m).mine.by
+
+  its_first : (o : Finished V) (m : o ∈ finished R n) → First (λ t. IsLineOf R t o.process) (over_of R n o m).b o.effect
   its_first o m =
       let b = (over_of R n o m).b in
       let h = (over_of R n o m).mine.begun in
-      first_of (λ t. Makes R t o.process) (makes_or_not o.process) (o.effect - b) b o.effect (omega arith) (effect_is_line o m)
+      first_of (λ t. IsLineOf R t o.process) (makes_or_not o.process) (o.effect - b) b o.effect (omega arith) (effect_is_own_line o m)
 
   ended_once : (o : Finished V) (m : o ∈ finished R n) (other : Finished V) → other ∈ finished R n → other.process ≡ o.process → (over_of R n o m).b ≤ other.last → other.last < o.last → ⊥
   ended_once o m other m' p h l = let d' = sound R n other m' in let k = (over_of R n o m).clear other.last h l (d'.1 ∙ p ∙ sym (sound R n o m).1) in clash (cc d'.2)
+
+  given_only : (o : Finished V) (m : o ∈ finished R n) (t : ℕ) (q : Request V) → (over_of R n o m).b ≤ t → t ≤ o.last → WasGiven o.process q (R.starts t) → (t ≡ (over_of R n o m).b) × (q ≡ o.request)
+  given_only o m t q h k w = (over_of R n o m).asks_once t q h (omega arith) (subst (λ p. WasGiven p q (R.starts t)) (sym (sound R n o m).1) w)
+
+  given_once : (o : Finished V) (m : o ∈ finished R n) (t : ℕ) (q : Request V) → (over_of R n o m).b < t → t ≤ o.last → WasGiven o.process q (R.starts t) → ⊥
+  given_once o m t q h k w = let e = (given_only o m t q (omega arith) k w).0 in omega arith
 
   pub belongs : (o : Finished V) → o ∈ finished R n → Belongs R n o
   belongs o m = record {
     start = (over_of R n o m).b;
     was_given = subst (λ p. WasGiven p o.request (R.starts (over_of R n o m).b)) (sound R n o m).1 (over_of R n o m).asks;
-    given_once = λ t q h k w. (over_of R n o m).asks_once t q h (omega arith) (subst (λ p. WasGiven p q (R.starts t)) (sym (sound R n o m).1) w);
+    given_once = given_once o m;
+    given_only = given_only o m;
     ended_once = ended_once o m;
     first = (its_first o m).time;
-    after_start = (its_first o m).since;
+    first_after_start = (its_first o m).since;
     first_is_line = (its_first o m).holds;
     none_before = (its_first o m).none_before;
     from_first = (its_first o m).early;
+    after_start = (over_of R n o m).mine.begun;
     in_time = (over_of R n o m).mine.past;
-    effect_is_line = effect_is_line o m;
+    own_effect = (effect_is_own_line o m).0;
+    effect_is_line = makes_of o.effect o.process (effect_is_own_line o m);
+    effect_is_own_line = effect_is_own_line o m;
+    own_end = (sound R n o m).1;
     last_is_line = ((sound R n o m).1, end_is_line (R.call o.last) (sound R n o m).2);
     before_n = (sound R n o m).0;
     ends = (sound R n o m).2;
   }
 
   -- the process that made the reset
-  made_by : (t q a : ℕ) (v : V) → R.event t ≡ reset q a v → Makes R t q
+  made_by : (t q a : ℕ) (v : V) → R.event t ≡ reset q a v → IsLineOf R t q
   made_by t q a v e = (sym (call_maker (R.call t)) ∙ ap maker e, reset_is_line (R.call t) e)
 
   pub lost_to_reset : (o : Finished V) (a : ℕ) (v : V) (m : o ∈ finished R n) → o.request ≡ sc a v → MarkWasReset (history R) (finished R n) o a

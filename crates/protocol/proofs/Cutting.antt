@@ -6,9 +6,7 @@ use Rattle.protocol.specs.World.{own_id}
 use Rattle.protocol.specs.Events.{Event}
 use Rattle.protocol.specs.Events.Event.{look}
 use Rattle.protocol.specs.Operations.{Finished}
-use Rattle.protocol.specs.Phases.{Done, asked}
-use Rattle.protocol.specs.Phases.ReadPhase.{resets}
-use Rattle.protocol.specs.Phases.Phase.{linking}
+use Rattle.protocol.specs.Phases.{Done}
 use Rattle.protocol.specs.Runs.{Machine, world, Given, Call, Run, finished}
 use Rattle.protocol.specs.Runs.Call.{pauses}
 use Rattle.protocol.specs.World.{Stands}

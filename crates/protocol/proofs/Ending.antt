@@ -3,7 +3,6 @@ use Rattle.std.proofs.Common.{◌≡◌, ℕ, zero, suc, ◌+◌, ◌<◌, ◌�
 use mathlib.Core.Option.{Option, some, none}
 use native.Mathlib.Decide.{ℕ_discrete}
 use Rattle.memory.specs.declared.cell.Cell.TheVariants.{Value}
-use Rattle.protocol.specs.World.Stage.{held}
 use Rattle.protocol.specs.Events.{Event}
 use Rattle.protocol.specs.Events.Event.{mark, commit, fail}
 use Rattle.protocol.specs.Operations.{Request, Answer, Finished}
@@ -16,7 +15,7 @@ use Rattle.protocol.specs.Lines.{Line}
 use Rattle.protocol.specs.Lines.Line.{read_on, read_got, attempt_value, attempt_id, again_value, again_id, link_on, link_got, line_7, line_8_yes, line_8_no}
 use Rattle.protocol.specs.Lines.Line.{line_9_ll, line_9_one, line_9_more, sc_yes, sc_no, s6_on, s6_end, c1_on, c1_got, c1_end, c2_on, c2_got, c2_end, s9_on}
 use Rattle.protocol.specs.Lines.Line.{s9_again, s9_solo, s9_inside, kcss_one, kcss_yes, kcss_retry, kcss_first, kcss_first_gone, kcss_other, kcss_other_gone}
-use Rattle.protocol.specs.Runs.{Run, Makes}
+use Rattle.protocol.specs.Runs.{Run, IsLineOf}
 use Rattle.protocol.proofs.Changes.{clash}
 use Rattle.protocol.specs.Seen.{Seen, AllSeen, SeenExpected, SeenDiffering}
 use Rattle.protocol.specs.Certificates.{KcssYes, KcssNo}
@@ -80,7 +79,7 @@ module _ {V : Type 0} (R : Run V) where
   Ended t p b f (kcss x o u) (said false) = KcssNo (history R) (fin t p (kcss x o u) (said false) f) x o
 
   pub record Mine (t p b f : ℕ) : Type 0 where
-    pub by : Makes R f p
+    pub by : IsLineOf R f p
     pub past : f ≤ t
     pub clear : Clear R p f t
     pub begun : b ≤ f
@@ -89,7 +88,7 @@ module _ {V : Type 0} (R : Run V) where
   Ends t p b none = Unit {0}
   Ends t p b (some (done q z f)) = Mine t p b f × Ended t p b f q z
 
-  mine_now : {b : ℕ} (t p : ℕ) → Makes R t p → b ≤ t → Mine t p b t
+  mine_now : {b : ℕ} (t p : ℕ) → IsLineOf R t p → b ≤ t → Mine t p b t
   mine_now t p w h = record { by = w; past = omega arith; clear = λ c h l. absurd (omega arith); begun = h }
 
   mine_8 : {t p n b a : ℕ} {v : V} {t8 : ℕ} → KInv R t p n b a v t8 → Mine t p b t8
@@ -98,7 +97,7 @@ module _ {V : Type 0} (R : Run V) where
   mine_e : {t p n b a : ℕ} {v : V} {f : ℕ} → EInv R t p n b a v f → Mine t p b f
   mine_e k = record { by = k.minef; past = (let h = k.early in omega arith); clear = k.clearf; begun = k.begunf }
 
-  pub line_ends : (t p : ℕ) {r r' : Process V} {e : Event V} {d : Option (Done V)} → Line t p (W R t) r e r' d → R.event t ≡ e → Makes R t p
+  pub line_ends : (t p : ℕ) {r r' : Process V} {e : Event V} {d : Option (Done V)} → Line t p (W R t) r e r' d → R.event t ≡ e → IsLineOf R t p
       → (W R t).tag p ≡ tag_of r → (W R t).stage p ≡ stage_of r → PInv R t p r → Ends t p (since_of r) d
   line_ends t p (read_on x) ev w g s i = tt
   line_ends t p (read_got x) ev w g s i = (mine_now t p w i.2, (_, refl, sub_own R x i.1))

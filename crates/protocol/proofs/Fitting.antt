@@ -1,10 +1,10 @@
 -- Starts make processes fit, lines keep them so, and the bounds are those of what was asked.
-use Rattle.std.proofs.Common.{◌≡◌, ℕ, zero, suc, ◌+◌, ◌*◌, ◌<◌, ◌≤◌, map, length, sym, refl, ap, ◌∙◌, subst, arith}
+use Rattle.std.proofs.Common.{◌≡◌, ℕ, zero, suc, ◌+◌, ◌*◌, ◌<◌, ◌≤◌, length, sym, refl, ap, ◌∙◌, subst, arith}
 use mathlib.Core.Option.{some, none}
 use native.Mathlib.Decide.{ℕ_discrete}
 use Rattle.protocol.specs.World.{World}
 use Rattle.protocol.specs.Events.{Event}
-use Rattle.protocol.specs.Operations.{Request, Absent}
+use Rattle.protocol.specs.Operations.{Request}
 use Rattle.protocol.specs.Phases.{Rows, Job, Purpose, Phase, Process, places, wants, job_request, purpose_request, phase_request, asked}
 use Rattle.protocol.specs.Phases.Job.{for_ll, for_kcss}
 use Rattle.protocol.specs.Phases.Purpose.{solo, inside}
@@ -18,25 +18,25 @@ use Rattle.protocol.specs.Runs.{Begins}
 use Rattle.protocol.specs.Runs.Begins.{begins_read, begins_ll, begins_sc, begins_snapshot, begins_kcss}
 use Rattle.protocol.specs.Remaining.{Off, PurposeFits}
 use Rattle.protocol.specs.Solo.{job_bound, purpose_bound, phase_bound, bound, Fits}
-use Rattle.protocol.specs.Asked.{request_bound, AskedBounds}
+use Rattle.protocol.specs.Asked.{request_bound, NotAmong, NoRepeat, AskedBounds}
 use Rattle.protocol.proofs.Costing.{off_set, fits_set}
-use Rattle.protocol.proofs.Alone.{bounds}
+use Rattle.protocol.proofs.Alone.{ends_to, bounds}
 
 module _ {V : Type 0} where
-  off_wants : (a : ℕ) (rows : Rows V) (i k : ℕ) → Absent a (map (λ one. one.location) (wants rows i k)) → (j : ℕ) → i ≤ j → j < i + k → (rows j).location ≡ a → ⊥
+  off_wants : (a : ℕ) (rows : Rows V) (i k : ℕ) → NotAmong a (wants rows i k) → (j : ℕ) → i ≤ j → j < i + k → (rows j).location ≡ a → ⊥
   off_wants a rows i zero h j l m e = omega arith
   off_wants a rows i (suc k) (n, h) j l m e =
       elim (ℕ_discrete j i) [
-        | yes q ↦ n (sym (ap (λ x. (rows x).location) (sym q) ∙ e))
+        | yes q ↦ n (ap (λ x. (rows x).location) (sym q) ∙ e)
         | no q ↦ off_wants a rows (suc i) k h j (omega arith) (omega arith) e
       ]
 
-  starts_fit : {t : ℕ} {r r' : Process V} {q : Request V} → Begins t r q r' → Fits r'
-  starts_fit (begins_read a) = tt
-  starts_fit (begins_ll a) = tt
-  starts_fit (begins_sc a u) = tt
-  starts_fit (begins_snapshot rows k o) = (tt, omega arith)
-  starts_fit (begins_kcss a x u rows k (o, more)) = λ j l. off_wants a rows 0 k o j (omega arith) (omega arith)
+  starts_fit : {t : ℕ} {r r' : Process V} {q : Request V} → Begins t r q r' → NoRepeat q → Fits r'
+  starts_fit (begins_read a) h = tt
+  starts_fit (begins_ll a) h = tt
+  starts_fit (begins_sc a u) h = tt
+  starts_fit (begins_snapshot rows k) h = (tt, omega arith)
+  starts_fit (begins_kcss a x u rows k) h = λ j l. off_wants a rows 0 k h j (omega arith) (omega arith)
 
   lines_fit : {t p : ℕ} {w : World V} {r r' : Process V} {e : Event V} → Line t p w r e r' none → Fits r → Fits r'
   lines_fit (read_on x) f = tt
@@ -111,7 +111,8 @@ module _ {V : Type 0} where
   pub asked_bounds : AskedBounds V
   asked_bounds = record {
     as_asked = as_asked;
-    starts_fit = λ t r r' q b. starts_fit b;
+    starts_fit = λ t r r' q b h. starts_fit b h;
     lines_fit = λ t p w r r' e l f. lines_fit l f;
-    ends_asked = λ p N m b q f e a. let h = bounds.ends p N m b f a in let c = as_asked (m.processes p) q e in omega arith;
+    ends_asked = λ p N m q f e a. let h = bounds.ends p N m f a in let c = as_asked (m.processes p) q e in omega arith;
+    ends_asked_to = λ p N m b q f e a. let h = ends_to p N m b f a in let c = as_asked (m.processes p) q e in omega arith;
   }

@@ -102,8 +102,8 @@ module _ {V : Type 0} (R : Run V) where
       since (begins_read a) = refl
       since (begins_ll a) = refl
       since (begins_sc a u) = refl
-      since (begins_snapshot rows k o) = refl
-      since (begins_kcss a x u rows k o) = refl
+      since (begins_snapshot rows k) = refl
+      since (begins_kcss a x u rows k) = refl
 
   also : (t p p' : ℕ) (q' : Request V) (list : List (Given V)) (r : Process V) → (p ≡ p' → ⊥) → Dealt t list p r → Dealt t (given p' q' ∷ list) p r
   also t p p' q' list r h i = elim i [ inl x ↦ inl (λ q w. x.0 q (in_list q w), x.1) | inr x ↦ inr (x.0, x.1, x.2, inr x.3, λ q w. x.4 q (in_list q w)) ]
@@ -164,3 +164,16 @@ module _ {V : Type 0} (R : Run V) where
   pub was_asked : (t p : ℕ) → Before t p ((R.at t).processes p)
   was_asked zero p = subst (Before 0 p) (sym (R.rested p)) tt
   was_asked (suc t) p = step_gives t (R.call t) refl refl (was_asked t) p
+
+  -- what a process is asked after Starts was given to it there or at an earlier step
+  pub was_given : (t : ℕ) {m : Machine V} {list : List (Given V)} → Begun t (R.at t) list m → (p : ℕ) (q : Request V) → asked (m.processes p) ≡ some q
+      → ((b : ℕ) × WasGiven p q (R.starts b)) ⊎ WasGiven p q list
+  was_given t {m = m} {list = list} u p q e = go (dealt t u (was_asked t) p)
+    where
+      before : (b : ℕ) (x : Option (Request V)) → x ≡ some q → Runs t t p b x → (b : ℕ) × WasGiven p q (R.starts b)
+      before b none e i = clash (cc)
+      before b (some y) e i = let z : y ≡ q = cc in (b, subst (λ x. WasGiven p x (R.starts b)) z i.0)
+
+      go : Dealt t list p (m.processes p) → ((b : ℕ) × WasGiven p q (R.starts b)) ⊎ WasGiven p q list
+      go (inl i) = inl (before (since_of (m.processes p)) (asked (m.processes p)) e i.1)
+      go (inr i) = let x = i.1 in let z : i.0 ≡ q = cc in inr (subst (λ x. WasGiven p x list) z i.3)

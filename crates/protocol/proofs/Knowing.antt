@@ -20,7 +20,7 @@ use Rattle.protocol.specs.Phases.Done.{done}
 use Rattle.protocol.specs.Lines.{ReadTurn, ReadLine}
 use Rattle.protocol.specs.Lines.ReadTurn.{on, got}
 use Rattle.protocol.specs.Lines.ReadLine.{line_13_value, line_13_id, line_1_value, line_1_id, line_3a, line_3b_yes, line_3b_no}
-use Rattle.protocol.specs.Runs.{world, Run, Makes}
+use Rattle.protocol.specs.Runs.{world, Run, IsLineOf}
 use Rattle.protocol.proofs.Changes.{clash, changed_here, changed_else}
 use Rattle.protocol.specs.Certificates.{KeepsLink}
 
@@ -97,7 +97,7 @@ module _ {V : Type 0} (R : Run V) where
     pub marks : R.event t8 ≡ mark p a v
     pub tag8 : (W t8).tag p ≡ n
     pub keeps : (W t).saved p ≡ Value v
-    pub mine8 : Makes R t8 p
+    pub mine8 : IsLineOf R t8 p
     pub clear8 : Clear p t8 t
 
   -- the LL that gave p its link, with effect e0 and last step l0; since then p finished nothing that touches links
@@ -121,7 +121,7 @@ module _ {V : Type 0} (R : Run V) where
     pub stood : (W f).stage p ≡ armed a
     pub tagf : (W f).tag p ≡ n
     pub savedf : (W f).saved p ≡ Value v
-    pub minef : Makes R f p
+    pub minef : IsLineOf R f p
     pub clearf : Clear p f t
 
   abbrev pub ForInv : ℕ → ℕ → ℕ → ℕ → Purpose V → Type 0
@@ -129,7 +129,7 @@ module _ {V : Type 0} (R : Run V) where
   ForInv t p n b (inside a x u v t8) = KInv t p n b a v t8
 
   abbrev pub EffInv : ℕ → ℕ → ℕ → ℕ → Purpose V → ℕ → Type 0
-  EffInv t p n b solo f = (f < t) × Makes R f p × Clear p f t × (b ≤ f)
+  EffInv t p n b solo f = (f < t) × IsLineOf R f p × Clear p f t × (b ≤ f)
   EffInv t p n b (inside a x u v t8) f = EInv t p n b a v f
 
   abbrev pub F6 : ℕ → Row V → Type 0
@@ -257,7 +257,7 @@ module _ {V : Type 0} (R : Run V) where
   clear_now t p g c h l w = let e : c ≡ t = omega arith in ap R.out e ∙ g (ap R.who (sym e) ∙ w)
 
   -- the effect of a SNAPSHOT is now
-  pub eff_now : (t p n b : ℕ) (F : Purpose V) (l : Option ℕ) → (W t).tag p ≡ n → (W t).stage p ≡ purpose_stage F l → Makes R t p → Goes t p → b ≤ t → ForInv t p n b F → EffInv (suc t) p n b F t
+  pub eff_now : (t p n b : ℕ) (F : Purpose V) (l : Option ℕ) → (W t).tag p ≡ n → (W t).stage p ≡ purpose_stage F l → IsLineOf R t p → Goes t p → b ≤ t → ForInv t p n b F → EffInv (suc t) p n b F t
   eff_now t p n b solo l g s w o y i = (omega arith, w, clear_now t p o, y)
   eff_now t p n b (inside a x u v t8) l g s w o y i = record { early = omega arith; stood = s; tagf = g; savedf = i.keeps; minef = w; clearf = clear_now t p o; begunf = y }
 

@@ -9,14 +9,14 @@ use Rattle.protocol.specs.Lines.{Line}
 use Rattle.protocol.specs.Lines.Line.{read_on, read_got, attempt_value, attempt_id, again_value, again_id, link_on, link_got, line_7, line_8_yes, line_8_no}
 use Rattle.protocol.specs.Lines.Line.{line_9_ll, line_9_one, line_9_more, sc_yes, sc_no, s6_on, s6_end, c1_on, c1_got, c1_end, c2_on, c2_got, c2_end, s9_on}
 use Rattle.protocol.specs.Lines.Line.{s9_again, s9_solo, s9_inside, kcss_one, kcss_yes, kcss_retry, kcss_first, kcss_first_gone, kcss_other, kcss_other_gone}
-use Rattle.protocol.specs.Runs.{Run, Makes}
+use Rattle.protocol.specs.Runs.{Run, IsLineOf}
 use Rattle.protocol.proofs.Changes.{clash, changed_here}
 use Rattle.protocol.specs.Certificates.{KeepsLink}
 use Rattle.protocol.proofs.Knowing.{W, F6, F1, F9, PInv, later, more, hold, link_still, spares, sub_own, k_still, for_still, f6_still, f1_still, e_still}
 use Rattle.protocol.proofs.Knowing.{eff_still, sub_saved, clear_now, eff_now, eff_past, to_9, quiet_still}
 
 module _ {V : Type 0} (R : Run V) where
-  pub own_step : (t p : ℕ) {r r' : Process V} {e : Event V} {d : Option (Done V)} → Line t p (W R t) r e r' d → R.event t ≡ e → R.out t ≡ d → Makes R t p
+  pub own_step : (t p : ℕ) {r r' : Process V} {e : Event V} {d : Option (Done V)} → Line t p (W R t) r e r' d → R.event t ≡ e → R.out t ≡ d → IsLineOf R t p
       → W R (suc t) ≡ after e (W R t) → (W R t).tag p ≡ tag_of r → (W R t).stage p ≡ stage_of r → PInv R t p r → PInv R (suc t) p r'
   own_step t p (read_on {n = n} {l = l} x) ev o w q g s i = (link_still R t p n l (spares R t p (λ _. o)) i.0, sub_own R x i.1, later _ t i.2)
   own_step t p (read_got {n = n} {l = l} {a = a} {v = v} x) ev o w q g s i =

@@ -3,12 +3,9 @@ use Rattle.std.proofs.Common.{◌≡◌, ℕ, suc, ◌<◌, Bool, true, false, �
 use mathlib.Core.Option.{some}
 use native.Mathlib.Decide.{ℕ_discrete, dec_le}
 use Rattle.memory.specs.declared.cell.Cell.TheVariants.{Value}
-use Rattle.protocol.specs.World.Stage.{held}
 use Rattle.protocol.specs.Operations.{Request, Answer, Finished}
 use Rattle.protocol.specs.Operations.Request.{read, ll, sc, snapshot, kcss}
 use Rattle.protocol.specs.Operations.Answer.{values, said}
-use Rattle.protocol.specs.Phases.{asked}
-use Rattle.protocol.specs.Phases.Phase.{linking}
 use Rattle.protocol.specs.Phases.Done.{done}
 use Rattle.protocol.specs.Runs.{Run, Paused, finished}
 use Rattle.protocol.proofs.Changes.{clash}

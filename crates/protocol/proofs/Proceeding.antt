@@ -8,7 +8,7 @@ use Rattle.memory.specs.declared.cell.TaggedId.{TaggedId}
 use Rattle.protocol.specs.World.{World, id_cell, changed}
 use Rattle.protocol.specs.Events.{Event}
 use Rattle.protocol.specs.Operations.{Request}
-use Rattle.protocol.specs.Phases.{ReadPhase, Rows, Job, place_of, Purpose, Phase, Process, Meets, with_id_second, asked}
+use Rattle.protocol.specs.Phases.{ReadPhase, Rows, Job, place_of, Purpose, Phase, Process, Meets, with_id_second, phase_request, asked}
 use Rattle.protocol.specs.Phases.ReadPhase.{looks, looks_again, fetches, resets}
 use Rattle.protocol.specs.Phases.Job.{for_ll, for_kcss}
 use Rattle.protocol.specs.Phases.Purpose.{solo, inside}
@@ -22,11 +22,12 @@ use Rattle.protocol.specs.Lines.Line.{read_on, read_got, attempt_value, attempt_
 use Rattle.protocol.specs.Lines.Line.{line_9_ll, line_9_one, line_9_more, sc_yes, sc_no, s6_on, s6_end, c1_on, c1_got, c1_end, c2_on, c2_got, c2_end, s9_on}
 use Rattle.protocol.specs.Lines.Line.{s9_again, s9_solo, s9_inside, kcss_one, kcss_yes, kcss_retry, kcss_first, kcss_first_gone, kcss_other, kcss_other_gone}
 use Rattle.protocol.specs.Runs.{Machine, world, Given, Begun, turned}
-use Rattle.protocol.specs.Solo.{PhaseFits, Fits, Alone}
-use Rattle.protocol.specs.Solo.Alone.{no_line, then_starts, then_line}
+use Rattle.protocol.specs.Solo.{bound, PhaseFits, Fits, Remaining, AloneTo}
+use Rattle.protocol.specs.Solo.AloneTo.{no_line, then_starts, then_line}
 use Rattle.protocol.specs.Going.{CanStep}
-use Rattle.protocol.specs.Finishes.{FinishesAlone}
-use Rattle.protocol.specs.Sound.{CellsSound, ReadSound, PhaseSound, ProcessSound, Sound, GoesOn}
+use Rattle.protocol.specs.Sound.{CellsSound, ReadSound, PhaseSound, ProcessSound, Sound, EndsWithin, GoesOn}
+use Rattle.protocol.specs.Unaided.{FinishesAlone, AlwaysGoesOn}
+use Rattle.protocol.proofs.Alone.{bounds}
 use Rattle.protocol.proofs.Changes.{clash, changed_here}
 use Rattle.protocol.proofs.Fitting.{asked_bounds}
 use Rattle.protocol.proofs.Sounding.{stays_sound}
@@ -121,8 +122,8 @@ module _ {V : Type 0} (d : Discrete V) where
     notes n b (for_kcss a x u rows zero) v t8 = (_, _, _, line_9_one)
     notes n b (for_kcss a x u rows (suc k)) v t8 = (_, _, _, line_9_more)
 
-    goes_in : (n b : ℕ) (l : Option ℕ) (ph : Phase V) → PhaseFits ph → PhaseSound w.saved p l ph → CanStep t p w (proc n l b ph)
-    goes_in n b l resting f h = absurd f
+    goes_in : (n b : ℕ) (l : Option ℕ) (ph : Phase V) → (phase_request ph ≡ none → ⊥) → PhaseSound w.saved p l ph → CanStep t p w (proc n l b ph)
+    goes_in n b l resting f h = absurd (f refl)
     goes_in n b l (reading a s) f h =
         elim (turns a s h) [ inl x ↦ (_, _, _, read_on x.2) | inr x ↦ (_, _, _, read_got x.2) ]
     goes_in n b l (attempt J) f h =
@@ -161,8 +162,43 @@ module _ {V : Type 0} (d : Discrete V) where
         (swaps n b a x u v t8 rows k o (d v x) (same_cell (w.val a) (id_cell p n))
         (all_or (λ j. (rows j).first ≡ (rows j).expected) (λ j. d (rows j).first (rows j).expected) k))
 
-    goes : (r : Process V) → Fits r → ProcessSound w.saved p r → CanStep t p w r
+    pub goes : (r : Process V) → (asked r ≡ none → ⊥) → ProcessSound w.saved p r → CanStep t p w r
     goes (proc n l b ph) f h = goes_in n b l ph f h
+
+runs_in : {V : Type 0} (ph : Phase V) → PhaseFits ph → phase_request ph ≡ none → ⊥
+runs_in resting f e = absurd f
+runs_in ph f e = clash (cc)
+
+runs : {V : Type 0} (r : Process V) → Fits r → asked r ≡ none → ⊥
+runs (proc n l b ph) f e = runs_in ph f e
+
+-- as long as lines remain
+finishes : {V : Type 0} → Discrete V → (p N t : ℕ) (m : Machine V) → Sound m p → Fits (m.processes p) → Remaining m p N → EndsWithin p N t m
+finishes d p zero t m S f h = bounds.measure.not_zero p m h
+finishes {V = V} d p (suc N) t m S f h = over (goes d t p (world m) (m.processes p) (runs (m.processes p) f) S.process) (λ e r l. finishes d p N (suc t) (turned m e p r))
+  where
+    over : CanStep t p (world m) (m.processes p)
+        → ((e : Event V) (r : Process V) → Line t p (world m) (m.processes p) e r none → Sound (turned m e p r) p → Fits ((turned m e p r).processes p)
+        → Remaining (turned m e p r) p N → EndsWithin p N (suc t) (turned m e p r))
+        → EndsWithin p (suc N) t m
+    over (e, r, some o, l) more = (e, r, inl (o, l))
+    over (e, r, none, l) more = (
+      e,
+      r,
+      inr (
+        l,
+        more e r l (stays_sound t p m e r none l S)
+            (subst (λ (x : Process V). Fits x) (sym (changed_here m.processes p r)) (asked_bounds.lines_fit t p (world m) (m.processes p) r e l f))
+            (bounds.measure.falls t p N m e r l h),
+      ),
+    )
+
+pub goes_on : {V : Type 0} → GoesOn V
+goes_on = record {
+  goes = λ d t p m S f. goes d t p (world m) (m.processes p) (runs (m.processes p) f) S.process;
+  stays_sound = stays_sound;
+  finishes = λ d t p m S f. finishes d p (bound (m.processes p)) t m S f (bounds.measure.within_bound p m f);
+}
 
 -- while the process steps alone
 module _ {V : Type 0} (p : ℕ) (m : Machine V) (q : Request V) (S : Sound m p) (f : Fits (m.processes p)) (a : asked (m.processes p) ≡ some q) where
@@ -190,21 +226,21 @@ module _ {V : Type 0} (p : ℕ) (m : Machine V) (q : Request V) (S : Sound m p) 
         ap asked i ∙ keeps l ∙ h,
       )
 
-  runs_on : {N : ℕ} {b : Machine V} → Alone p m N b → RunsOn b
+  runs_on : {N : ℕ} {b : Machine V} → AloneTo p m N b → RunsOn b
   runs_on no_line = (S, f, a)
   runs_on (then_starts x s u) = with_starts u (runs_on x)
   runs_on (then_line {b = b} x s e r l) = with_line s b e r l (runs_on x)
 
-  pub finishes : Discrete V → FinishesAlone p m q
-  finishes d = record {
-    goes_on = λ N b x s. let h = runs_on x in goes d s p (world b) (b.processes p) h.1 h.0.process;
-    in_time = λ N b x. asked_bounds.ends_asked p N m b q f a x;
+  pub finishes_alone : Discrete V → FinishesAlone p m q
+  finishes_alone d = record {
+    goes_on = λ N b x s. let h = runs_on x in goes d s p (world b) (b.processes p) (runs (b.processes p) h.1) h.0.process;
+    in_time = λ N b x. asked_bounds.ends_asked_to p N m b q f a x;
     ends_it = λ N b x s e r ended answer effect l. let h = (runs_on x).2 in let k = (keeps l).0 in cc;
   }
 
-pub goes_on : {V : Type 0} → Discrete V → GoesOn V
-goes_on d = record {
-  goes = λ t p m S f. goes d t p (world m) (m.processes p) f S.process;
+pub always_goes_on : {V : Type 0} → Discrete V → AlwaysGoesOn V
+always_goes_on d = record {
+  goes = λ t p m S f. goes_on.goes d t p m S f;
   stays_sound = stays_sound;
-  finishes = λ p m q S f a. finishes p m q S f a d;
+  finishes = λ p m q S f a. finishes_alone p m q S f a d;
 }

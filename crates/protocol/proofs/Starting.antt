@@ -18,8 +18,8 @@ pub rested : {V : Type 0} {t : ℕ} {r r' : Process V} {q : Request V} → Begin
 rested (begins_read a) = (_, _, _, refl)
 rested (begins_ll a) = (_, _, _, refl)
 rested (begins_sc a u) = (_, _, _, refl)
-rested (begins_snapshot rows k o) = (_, _, _, refl)
-rested (begins_kcss a x u rows k o) = (_, _, _, refl)
+rested (begins_snapshot rows k) = (_, _, _, refl)
+rested (begins_kcss a x u rows k) = (_, _, _, refl)
 
 pub still_runs : {V : Type 0} {t : ℕ} {m m' : Machine V} {list : List (Given V)} → Begun t m list m'
     → (p : ℕ) → (Rests (m.processes p) → ⊥) → m'.processes p ≡ m.processes p

@@ -49,8 +49,8 @@ module _ {V : Type 0} (R : Run V) where
   begin_own t p (begins_read a) i = (i.0, tt, omega arith)
   begin_own t p (begins_ll a) i = (tt, tt, omega arith)
   begin_own t p (begins_sc a u) i = (tt, (i.0, λ c b v h l. absurd (omega arith)), omega arith)
-  begin_own t p (begins_snapshot rows k o) i = (i.0, (tt, omega arith, λ j h. absurd (omega arith)), omega arith)
-  begin_own t p (begins_kcss a x u rows k o) i = (tt, tt, omega arith)
+  begin_own t p (begins_snapshot rows k) i = (i.0, (tt, omega arith, λ j h. absurd (omega arith)), omega arith)
+  begin_own t p (begins_kcss a x u rows k) i = (tt, tt, omega arith)
 
   pub begun_knows : (t : ℕ) {m b : Machine V} {list : List (Given V)} → Begun t m list b → ((p : ℕ) → PInv R t p (m.processes p)) → (p : ℕ) → PInv R t p (b.processes p)
   begun_knows t no_more ih p = ih p

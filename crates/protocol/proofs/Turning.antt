@@ -92,8 +92,8 @@ pub begins_fit : {V : Type 0} {t : ℕ} {q : Request V} {r r' : Process V} → B
 begins_fit (begins_read a) = (refl, refl)
 begins_fit (begins_ll a) = (refl, refl)
 begins_fit (begins_sc a u) = (refl, refl)
-begins_fit (begins_snapshot rows k o) = (refl, refl)
-begins_fit (begins_kcss a x u rows k o) = (refl, refl)
+begins_fit (begins_snapshot rows k) = (refl, refl)
+begins_fit (begins_kcss a x u rows k) = (refl, refl)
 
 -- a function of the processes after one moved
 pub kept : {A X : Type 0} (f : A → X) (g : ℕ → A) (p : ℕ) (r : A) → f r ≡ f (g p) → (q : ℕ) → f (changed g p r q) ≡ f (g q)

@@ -1,8 +1,7 @@
 -- Events: every step of a process is one of eight, told by what it changes in the world.
 use Rattle.std.specs.Prelude.{◌≡◌, ℕ, suc, ◌⊎◌, ◌≢◌}
-use Rattle.memory.specs.declared.cell.Cell.{Cell}
-use Rattle.memory.specs.declared.cell.Cell.TheVariants.{Value, Id}
-use Rattle.protocol.specs.World.{Stage, World, id_cell, own_id, changed}
+use Rattle.memory.specs.declared.cell.Cell.TheVariants.{Value}
+use Rattle.protocol.specs.World.{World, id_cell, own_id, changed}
 use Rattle.protocol.specs.World.Stage.{idle, fresh, held, armed}
 
 -- The process that makes the step comes first.

@@ -1,29 +1,20 @@
 -- At every step of a run, each process, stepped alone from there, ends what it was asked within its bound.
-use Rattle.std.specs.Prelude.{◌≡◌, ℕ, ◌<◌, List}
+use Rattle.std.specs.Prelude.{◌≡◌, ℕ, List}
 use Rattle.std.proofs.Math.Option.{some}
-use Rattle.protocol.specs.Events.{Event}
-use Rattle.protocol.specs.Operations.{Request, Answer}
-use Rattle.protocol.specs.Phases.{Process, asked}
-use Rattle.protocol.specs.Phases.Done.{done}
-use Rattle.protocol.specs.Lines.{Line}
-use Rattle.protocol.specs.Runs.{Machine, world, Given, Begun, Run}
-use Rattle.protocol.specs.Going.{CanStep}
-use Rattle.protocol.specs.Solo.{Alone}
-use Rattle.protocol.specs.Asked.{request_bound}
+use Rattle.protocol.specs.Operations.{Request}
+use Rattle.protocol.specs.Phases.{asked}
+use Rattle.protocol.specs.Runs.{Machine, Given, WasGiven, Begun, Run}
+use Rattle.protocol.specs.Asked.{request_bound, NoRepeat}
+use Rattle.protocol.specs.Sound.{EndsWithin}
 
--- Process p, stepped alone from the machine on, ends the request within its bound. As long as it has not ended, it can
--- make a line. Whichever lines it makes, as long as none of them has ended it they are fewer than the bound: so it ends
--- with the line that makes up the bound, or with one before. And the line that ends an operation ends this very request.
-pub record FinishesAlone {V : Type 0} (p : ℕ) (m : Machine V) (q : Request V) : Type 0 where
-  pub goes_on : (N : ℕ) (b : Machine V) → Alone p m N b → (s : ℕ) → CanStep s p (world b) (b.processes p)
-  pub in_time : (N : ℕ) (b : Machine V) → Alone p m N b → N < request_bound q
-  pub ends_it : (N : ℕ) (b : Machine V) → Alone p m N b → (s : ℕ) (e : Event V) (r : Process V)
-      (ended : Request V) (answer : Answer V) (effect : ℕ)
-      → Line s p (world b) (b.processes p) e r (some (done ended answer effect)) → ended ≡ q
+-- No request of the list repeats the first location of a KCSS.
+abbrev pub NoneRepeats : {V : Type 0} → List (Given V) → Type 0
+NoneRepeats {V = V} list = (p : ℕ) (q : Request V) → WasGiven p q list → NoRepeat q
 
--- At every step of a run, after any Starts there, a process that was asked something ends it alone: within 7 lines a
--- READ, 10 an LL, 1 an SC, 12 m + 1 a SNAPSHOT of m locations, 16 k - 5 a KCSS of k. Other processes may stand anywhere
--- in their operations.
+-- If no Start repeats the first location of a KCSS, then at every step, after any Starts there, a process that was asked
+-- something ends it alone: within 7 lines a READ, 10 an LL, 1 an SC, 12 m + 1 a SNAPSHOT of m locations, 16 k - 5 a KCSS
+-- of k. Other processes may stand anywhere in their operations.
 abbrev pub RunsFinish : Type 0 → Type 0
-RunsFinish V = (run : Run V) (t : ℕ) (list : List (Given V)) (m : Machine V) → Begun t (run.at t) list m
-    → (p : ℕ) (q : Request V) → asked (m.processes p) ≡ some q → FinishesAlone p m q
+RunsFinish V = Discrete V → (run : Run V) → ((t : ℕ) → NoneRepeats (run.starts t))
+    → (t : ℕ) (list : List (Given V)) (m : Machine V) → Begun t (run.at t) list m → NoneRepeats list
+    → (p : ℕ) (q : Request V) → asked (m.processes p) ≡ some q → EndsWithin p (request_bound q) t m

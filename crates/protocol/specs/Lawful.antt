@@ -11,7 +11,7 @@ use Rattle.protocol.specs.Replay.{Replays}
 use Rattle.protocol.specs.Lists.{◌∈◌, Once, by_effect, Ascending}
 use Rattle.protocol.specs.Certificates.{KeepsLink}
 use Rattle.protocol.specs.Phases.Done.{done}
-use Rattle.protocol.specs.Runs.{world, WasGiven, Run, Makes, finished}
+use Rattle.protocol.specs.Runs.{world, WasGiven, Run, Makes, IsLineOf, finished}
 
 -- A finished operation has exactly the request that its process was given by a Start, when step start was next. From then
 -- until its last step the process was given nothing else and ended nothing: so every line that it made is a step of this
@@ -20,18 +20,24 @@ use Rattle.protocol.specs.Runs.{world, WasGiven, Run, Makes, finished}
 pub record Belongs {V : Type 0} (run : Run V) (n : ℕ) (one : Finished V) : Type 0 where
   pub start : ℕ
   pub was_given : WasGiven one.process one.request (run.starts start)
-  pub given_once : (t : ℕ) (request : Request V) → start ≤ t → t ≤ one.last
+  pub given_once : (t : ℕ) (request : Request V) → start < t → t ≤ one.last
+      → WasGiven one.process request (run.starts t) → ⊥
+  pub given_only : (t : ℕ) (request : Request V) → start ≤ t → t ≤ one.last
       → WasGiven one.process request (run.starts t) → (t ≡ start) × (request ≡ one.request)
   pub ended_once : (other : Finished V) → other ∈ finished run n → other.process ≡ one.process
       → start ≤ other.last → other.last < one.last → ⊥
   pub first : ℕ
-  pub after_start : start ≤ first
-  pub first_is_line : Makes run first one.process
-  pub none_before : (t : ℕ) → start ≤ t → t < first → Makes run t one.process → ⊥
+  pub first_after_start : start ≤ first
+  pub first_is_line : IsLineOf run first one.process
+  pub none_before : (t : ℕ) → start ≤ t → t < first → IsLineOf run t one.process → ⊥
   pub from_first : first ≤ one.effect
+  pub after_start : start ≤ one.effect
   pub in_time : one.effect ≤ one.last
+  pub own_effect : run.who one.effect ≡ one.process
   pub effect_is_line : Makes run one.effect one.process
-  pub last_is_line : Makes run one.last one.process
+  pub effect_is_own_line : IsLineOf run one.effect one.process
+  pub own_end : run.who one.last ≡ one.process
+  pub last_is_line : IsLineOf run one.last one.process
   pub before_n : one.last < n
   pub ends : run.out one.last ≡ some (done one.request one.answer one.effect)
 
@@ -53,7 +59,7 @@ pub record LostToReset {V : Type 0} (run : Run V) (n : ℕ) (one : Finished V) (
   pub saved : V
   pub after_mark : linking.effect < step
   pub before_end : step < one.effect
-  pub made_by : Makes run step by_process
+  pub made_by : IsLineOf run step by_process
   pub resets : run.event step ≡ reset by_process location saved
   pub its_mark : (world (run.at step)).val location ≡ own_id (world (run.at linking.effect)) one.process
   pub by_another : by_process ≡ one.process → (linking.last < step) × (step < start)

@@ -21,5 +21,6 @@ pub mod Going
 pub mod Remaining
 pub mod Solo
 pub mod Asked
-pub mod Finishes
 pub mod Sound
+pub mod Finishes
+pub mod Unaided

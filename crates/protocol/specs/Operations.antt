@@ -1,5 +1,5 @@
 -- Operations: what is asked of the store, what is answered, and what is known of a finished operation.
-use Rattle.std.specs.Prelude.{◌≡◌, ℕ, Bool, List, [], ◌∷◌, map, ◌≢◌}
+use Rattle.std.specs.Prelude.{ℕ, Bool, List, [], ◌∷◌, map}
 
 -- A location with the value that a KCSS expects there.
 pub record Expected (V : Type 0) : Type 0 where
@@ -22,16 +22,6 @@ named (ll location) = location ∷ []
 named (sc location new) = location ∷ []
 named (snapshot locations) = locations
 named (kcss first others new) = first.location ∷ map (λ one. one.location) others
-
--- The location is none of those.
-abbrev pub Absent : ℕ → List ℕ → Type 0
-Absent location [] = Unit {0}
-Absent location (other ∷ more) = (location ≢ other) × Absent location more
-
--- No location is named twice.
-abbrev pub Distinct : List ℕ → Type 0
-Distinct [] = Unit {0}
-Distinct (location ∷ more) = Absent location more × Distinct more
 
 -- What was answered: values, or yes (true) or no (false).
 pub data Answer (V : Type 0) : Type 0 where

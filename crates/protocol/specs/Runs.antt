@@ -6,7 +6,7 @@ use Rattle.memory.specs.declared.cell.Cell.TheVariants.{Value}
 use Rattle.protocol.specs.World.{World, id_cell, changed}
 use Rattle.protocol.specs.Events.{Event, after}
 use Rattle.protocol.specs.Events.Event.{look}
-use Rattle.protocol.specs.Operations.{Request, named, Distinct, Finished}
+use Rattle.protocol.specs.Operations.{Request, Finished}
 use Rattle.protocol.specs.Operations.Request.{read, ll, sc, snapshot}
 use Rattle.protocol.specs.Phases.{Rows, Process, Done, places, kcss_of, stage_of, tag_of}
 use Rattle.protocol.specs.Phases.ReadPhase.{looks}
@@ -17,17 +17,15 @@ use Rattle.protocol.specs.Phases.Process.{proc}
 use Rattle.protocol.specs.Phases.Done.{done}
 use Rattle.protocol.specs.Lines.{Line}
 
--- A Start, when step t is next: a resting process is given a request, which names no location twice. READ and SNAPSHOT
--- any time; LL and KCSS if it has no link; SC if it has a link to the location, which it gives up.
+-- A Start, when step t is next: a resting process is given a request. READ and SNAPSHOT any time; LL and KCSS if it has
+-- no link; SC if it has a link to the location, which it gives up.
 pub data Begins {V : Type 0} (t : ℕ) : Process V → Request V → Process V → Type 0 where
   begins_read : {n b : ℕ} {l : Option ℕ} (a : ℕ) → Begins t (proc n l b resting) (read a) (proc n l t (reading a looks))
   begins_ll : {n b : ℕ} (a : ℕ) → Begins t (proc n none b resting) (ll a) (proc n none t (attempt (for_ll a)))
   begins_sc : {n b : ℕ} (a : ℕ) (u : V) → Begins t (proc n (some a) b resting) (sc a u) (proc n none t (swap_sc a u))
   begins_snapshot : {n b : ℕ} {l : Option ℕ} (rows : Rows V) (k : ℕ)
-      → Distinct (places rows 0 (suc k))
       → Begins t (proc n l b resting) (snapshot (places rows 0 (suc k))) (proc n l t (first_id solo rows (suc k) zero))
   begins_kcss : {n b : ℕ} (a : ℕ) (x u : V) (rows : Rows V) (k : ℕ)
-      → Distinct (named (kcss_of a x u rows k))
       → Begins t (proc n none b resting) (kcss_of a x u rows k) (proc n none t (attempt (for_kcss a x u rows k)))
 
 -- The shared cells and the processes.
@@ -96,15 +94,25 @@ pub record Run (V : Type 0) : Type 0 where
   pub rested : (p : ℕ) → (at 0).processes p ≡ proc 0 none 0 resting
   pub call : (t : ℕ) → Call t (who t) (at t) (at (suc t)) (starts t) (event t) (out t)
 
+-- Process p makes a line at step t, in the machine told, after the Starts, by the event and with the end told.
+abbrev pub MakesLine : {V : Type 0} (t p : ℕ) → Machine V → List (Given V) → Event V → Option (Done V) → Type 0
+MakesLine {V = V} t p m list e d =
+    (between : Machine V) × (r : Process V) × Begun t m list between
+    × Line t p (world between) (between.processes p) e r d
+
+-- The step of the run is a line of the process, and no pause.
+abbrev pub Makes : {V : Type 0} → Run V → (t p : ℕ) → Type 0
+Makes run t p = MakesLine t p (run.at t) (run.starts t) (run.event t) (run.out t)
+
 -- The step is a line, and no pause.
 abbrev pub IsLine : {V : Type 0} {t p : ℕ} {m m' : Machine V} {list : List (Given V)} {e : Event V} {d : Option (Done V)}
     → Call t p m m' list e d → Type 0
 IsLine (steps list between begun r e d l same) = Unit {0}
 IsLine (pauses same) = ⊥
 
--- Step t of the run is a line of process p.
-abbrev pub Makes : {V : Type 0} → Run V → (t p : ℕ) → Type 0
-Makes run t p = (run.who t ≡ p) × IsLine (run.call t)
+-- Step t of the run is made by process p, and is a line and no pause.
+abbrev pub IsLineOf : {V : Type 0} → Run V → (t p : ℕ) → Type 0
+IsLineOf run t p = (run.who t ≡ p) × IsLine (run.call t)
 
 -- From the step on the run only pauses.
 abbrev pub Paused : {V : Type 0} → Run V → ℕ → Type 0

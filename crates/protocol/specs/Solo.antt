@@ -74,21 +74,33 @@ pub record Falls (V : Type 0) : Type 0 where
   pub not_zero : (p : ℕ) (m : Machine V) → Remaining m p 0 → ⊥
   pub within_bound : (p : ℕ) (m : Machine V) → Fits (m.processes p) → Remaining m p (bound (m.processes p))
 
--- Process p comes from the first machine to the second by so many lines, whichever they are, of which none ends an
--- operation. No other process makes a line; Starts may come between. s is the number of the step that is next.
-pub data Alone {V : Type 0} (p : ℕ) (m : Machine V) : (lines : ℕ) → Machine V → Type 0 where
-  no_line : Alone p m zero m
-  then_starts : {N : ℕ} {b b' : Machine V} {list : List (Given V)} → Alone p m N b
-      → (s : ℕ) → Begun s b list b' → Alone p m N b'
-  then_line : {N : ℕ} {b : Machine V} → Alone p m N b
-      → (s : ℕ) (e : Event V) (r : Process V) → Line s p (world b) (b.processes p) e r none
-      → Alone p m (suc N) (turned b e p r)
+-- Process p can make N lines one after the other, no other process making any, of which none ends an operation.
+abbrev pub Alone : {V : Type 0} (p N : ℕ) → Machine V → Type 0
+Alone p zero m = Unit {0}
+Alone {V = V} p (suc N) m =
+    (t : ℕ) × (e : Event V) × (r : Process V)
+    × Line t p (world m) (m.processes p) e r none × Alone p N (turned m e p r)
 
 -- A process that steps alone makes fewer lines than its bound that do not end its operation: the line that the bound
 -- counts last, if it comes to it, ends the operation.
 abbrev pub SoloEnds : Type 0 → Type 0
-SoloEnds V = (p N : ℕ) (m b : Machine V) → Fits (m.processes p) → Alone p m N b → N < bound (m.processes p)
+SoloEnds V = (p N : ℕ) (m : Machine V) → Fits (m.processes p) → Alone p N m → N < bound (m.processes p)
 
 pub record SoloBounds (V : Type 0) : Type 0 where
   pub measure : Falls V
   pub ends : SoloEnds V
+
+-- Process p comes from the first machine to the second by so many lines, whichever they are, of which none ends an
+-- operation. No other process makes a line; Starts may come between. s is the number of the step that is next.
+pub data AloneTo {V : Type 0} (p : ℕ) (m : Machine V) : (lines : ℕ) → Machine V → Type 0 where
+  no_line : AloneTo p m zero m
+  then_starts : {N : ℕ} {b b' : Machine V} {list : List (Given V)} → AloneTo p m N b
+      → (s : ℕ) → Begun s b list b' → AloneTo p m N b'
+  then_line : {N : ℕ} {b : Machine V} → AloneTo p m N b
+      → (s : ℕ) (e : Event V) (r : Process V) → Line s p (world b) (b.processes p) e r none
+      → AloneTo p m (suc N) (turned b e p r)
+
+-- The same bound if Starts come between the lines of the process that steps alone: whichever machine it comes to by N
+-- lines that do not end its operation, N is less than its bound.
+abbrev pub SoloEndsTo : Type 0 → Type 0
+SoloEndsTo V = (p N : ℕ) (m b : Machine V) → Fits (m.processes p) → AloneTo p m N b → N < bound (m.processes p)

@@ -1,13 +1,12 @@
 -- Sound machines, in which a process that runs an operation can always make its next line.
-use Rattle.std.specs.Prelude.{◌≡◌, ℕ}
+use Rattle.std.specs.Prelude.{◌≡◌, ℕ, zero, suc, ◌⊎◌}
 use Rattle.std.proofs.Math.Option.{Option, some, none}
 use Rattle.memory.specs.declared.cell.Cell.{Cell}
 use Rattle.memory.specs.declared.cell.Cell.TheVariants.{Value, Id}
 use Rattle.memory.specs.declared.cell.TaggedId.{TaggedId}
 use Rattle.protocol.specs.World.{World}
 use Rattle.protocol.specs.Events.{Event}
-use Rattle.protocol.specs.Operations.{Request}
-use Rattle.protocol.specs.Phases.{ReadPhase, Purpose, Phase, Process, Done, asked}
+use Rattle.protocol.specs.Phases.{ReadPhase, Purpose, Phase, Process, Done}
 use Rattle.protocol.specs.Phases.ReadPhase.{looks, looks_again, fetches, resets}
 use Rattle.protocol.specs.Phases.Purpose.{solo, inside}
 use Rattle.protocol.specs.Phases.Phase.{resting, reading, attempt, attempt_again, linking, to_save, to_mark, to_note}
@@ -15,9 +14,7 @@ use Rattle.protocol.specs.Phases.Phase.{swap_sc, first_id, first_collect, second
 use Rattle.protocol.specs.Phases.Process.{proc}
 use Rattle.protocol.specs.Lines.{Line}
 use Rattle.protocol.specs.Runs.{Machine, world, turned, Run}
-use Rattle.protocol.specs.Going.{CanStep}
-use Rattle.protocol.specs.Solo.{Fits}
-use Rattle.protocol.specs.Finishes.{FinishesAlone}
+use Rattle.protocol.specs.Solo.{bound, Fits}
 
 -- The saved cell of the id's process is a value.
 abbrev pub Backed : {V : Type 0} → (saved : ℕ → Cell V) → TaggedId → Type 0
@@ -66,14 +63,28 @@ pub record Sound {V : Type 0} (m : Machine V) (p : ℕ) : Type 0 where
   pub cells : CellsSound (world m)
   pub process : ProcessSound m.saved p (m.processes p)
 
--- A process that runs an operation in a sound machine can make its next line, and the machine after any line that it
--- makes is sound. So, stepped alone, it ends what it was asked within its bound.
+-- Process p can make its next line, as step t, in the world.
+abbrev pub Goes : {V : Type 0} (t p : ℕ) → World V → Process V → Type 0
+Goes {V = V} t p w r = (e : Event V) × (r' : Process V) × (d : Option (Done V)) × Line t p w r e r' d
+
+-- Process p, stepped alone from step t on, ends its operation with its N-th line or before.
+abbrev pub EndsWithin : {V : Type 0} (p N t : ℕ) → Machine V → Type 0
+EndsWithin p zero t m = ⊥
+EndsWithin {V = V} p (suc N) t m =
+    (e : Event V) × (r : Process V)
+    × (((o : Done V) × Line t p (world m) (m.processes p) e r (some o))
+    ⊎ (Line t p (world m) (m.processes p) e r none × EndsWithin p N (suc t) (turned m e p r)))
+
+-- Where it can be told of any two values whether they are the same, a process that runs an operation in a sound machine
+-- can make its next line, and the machine after any line that it makes is sound. So, stepped alone, it ends its
+-- operation within its bound.
 pub record GoesOn (V : Type 0) : Type 0 where
-  pub goes : (t p : ℕ) (m : Machine V) → Sound m p → Fits (m.processes p) → CanStep t p (world m) (m.processes p)
+  pub goes : Discrete V → (t p : ℕ) (m : Machine V) → Sound m p → Fits (m.processes p)
+      → Goes t p (world m) (m.processes p)
   pub stays_sound : (t p : ℕ) (m : Machine V) (e : Event V) (r : Process V) (d : Option (Done V))
       → Line t p (world m) (m.processes p) e r d → Sound m p → Sound (turned m e p r) p
-  pub finishes : (p : ℕ) (m : Machine V) (q : Request V) → Sound m p → Fits (m.processes p)
-      → asked (m.processes p) ≡ some q → FinishesAlone p m q
+  pub finishes : Discrete V → (t p : ℕ) (m : Machine V) → Sound m p → Fits (m.processes p)
+      → EndsWithin p (bound (m.processes p)) t m
 
 -- Every machine of a run is sound, for every process.
 abbrev pub RunsSound : Type 0 → Type 0

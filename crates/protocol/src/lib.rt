@@ -1,21 +1,23 @@
 // The protocol: what processes do to the shared cells of a memory, told by worlds, events and histories, and by the lines
 // of the algorithm and their runs; and why the order of their operations by effect step is lawful. It is model and proof
-// alone: each theorem is the contract of a function that does nothing else. V is the type of the values: any type, or,
-// where a line has to be found, any value kind. Uses the cells of memories and the laws of value kinds.
+// alone: each theorem is the contract of a function that does nothing else. V is the type of the values: any type; where
+// a line has to be found, a type whose sameness can be told, as it can of any value kind. Uses the cells of memories and
+// the laws of value kinds.
 #![tactic(auto)]
 
 ghost use Rattle.protocol.specs.Past.{MarksOwned, IdsNeverReturn, TidsGuardValues, ChangesByCommit, LostMarkWasReset};
 ghost use Rattle.protocol.specs.Replay.{ReplaysAgree};
 ghost use Rattle.protocol.specs.Order.{OrderLaw};
 ghost use Rattle.protocol.specs.Steps.{LinesAreEvents};
-ghost use Rattle.protocol.specs.Opening.{StartsAreOpen};
+ghost use Rattle.protocol.specs.Opening.{StartsAreOpen, StartsExactly};
 ghost use Rattle.protocol.specs.Traces.{RunsAreHistories};
-ghost use Rattle.protocol.specs.Going.{LinesGoOn};
+ghost use Rattle.protocol.specs.Going.{LinesGoOn, LinesAlwaysGoOn};
 ghost use Rattle.protocol.specs.Lawful.{RunLaw};
-ghost use Rattle.protocol.specs.Solo.{SoloBounds};
+ghost use Rattle.protocol.specs.Solo.{SoloBounds, SoloEndsTo};
 ghost use Rattle.protocol.specs.Asked.{AskedBounds};
 ghost use Rattle.protocol.specs.Sound.{GoesOn, RunsSound};
 ghost use Rattle.protocol.specs.Finishes.{RunsFinish};
+ghost use Rattle.protocol.specs.Unaided.{AlwaysGoesOn, RunsFinishAlone};
 
 use value::ValueKind;
 
@@ -76,10 +78,17 @@ pub fn lines_are_events<V>() -> u8
     0
 }
 
-// A process can be given a request exactly if it rests, its link allows the request, and the request names one location
-// or more, none of them twice.
+// A resting process can be given any request that its link allows.
 pub fn starts_are_open<V>() -> u8
     ensures { StartsAreOpen V }
+{
+    0
+}
+
+// If there is a value at all, a process can be given a request exactly if it rests, its link allows the request, and the
+// request names one location or more; and what it is given is what it is asked then.
+pub fn starts_exactly<V>() -> u8
+    ensures { StartsExactly V }
 {
     0
 }
@@ -91,9 +100,16 @@ pub fn runs_are_histories<V>() -> u8
     0
 }
 
-// At every step of a run a process that runs an operation has a line to make.
-pub fn lines_go_on<V: ValueKind>() -> u8
+// Where sameness of values can be told, a process that runs an operation always has a line to make.
+pub fn lines_go_on<V>() -> u8
     ensures { LinesGoOn V }
+{
+    0
+}
+
+// For a value kind nothing has to be told: at every step of a run a process that runs an operation has a line to make.
+pub fn lines_always_go_on<V: ValueKind>() -> u8
+    ensures { LinesAlwaysGoOn V }
 {
     0
 }
@@ -115,7 +131,16 @@ pub fn solo_bounds<V>() -> u8
     0
 }
 
-// The bounds are told by what was asked, and hold from every Start on, in every phase that its lines lead to.
+// A process that steps alone ends its operation within the same bounds if other processes are given operations between its
+// lines.
+pub fn solo_ends_to<V>() -> u8
+    ensures { SoloEndsTo V }
+{
+    0
+}
+
+// The bounds are told by what was asked, and hold from every Start whose KCSS does not repeat its first location, in
+// every phase that its lines lead to, also if Starts come between those lines.
 pub fn asked_bounds<V>() -> u8
     ensures { AskedBounds V }
 {
@@ -123,9 +148,17 @@ pub fn asked_bounds<V>() -> u8
 }
 
 // In a sound machine a process that runs an operation can make its next line, and the machine stays sound for it: stepped
-// alone, it ends what it was asked within its bound.
-pub fn solo_goes_on<V: ValueKind>() -> u8
+// alone, it ends its operation within its bound.
+pub fn solo_goes_on<V>() -> u8
     ensures { GoesOn V }
+{
+    0
+}
+
+// The same for any value kind, and whichever lines the process makes: until it has ended what it was asked it can make a
+// line, it makes fewer than its bound before the one that ends it, and that one ends no other request.
+pub fn solo_always_goes_on<V: ValueKind>() -> u8
+    ensures { AlwaysGoesOn V }
 {
     0
 }
@@ -137,10 +170,18 @@ pub fn runs_are_sound<V>() -> u8
     0
 }
 
-// At every step of a run, whatever the other processes are at, a process that runs an operation ends it alone within its
-// bound: until it has ended it can make a line, and whichever lines it makes, the bound counts enough of them.
-pub fn runs_finish<V: ValueKind>() -> u8
+// At every step of a run without repeats in its KCSSs, a process stepped alone ends what it was asked within its bound.
+pub fn runs_finish<V>() -> u8
     ensures { RunsFinish V }
+{
+    0
+}
+
+// At every step of a run, whatever the other processes are at and were asked, a process whose KCSS, if it runs one, does
+// not repeat its first location ends its operation alone within its bound: until it has ended it can make a line, and
+// whichever lines it makes, the bound counts enough of them.
+pub fn runs_finish_alone<V: ValueKind>() -> u8
+    ensures { RunsFinishAlone V }
 {
     0
 }

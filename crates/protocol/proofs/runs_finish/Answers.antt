@@ -1,6 +1,5 @@
 use Rattle.protocol.proofs.runs_finish.Goals as goal
-use Rattle.protocol.proofs.Telling.{told_apart}
 use Rattle.protocol.proofs.Soloing.{runs_finish}
 
 pub returns : goal.returns
-returns g c = runs_finish (told_apart g.V.ValueKind.coded g.V.ValueKind.decoded g.met.V.ValueKind.returned)
+returns g c = runs_finish
