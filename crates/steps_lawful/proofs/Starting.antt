@@ -122,7 +122,7 @@ module _ {V : Type 0} (any : V) (t n b m c : ℕ) where
     snapshot_begins rest e =
         let fits = fit any Snapshot (o ∷ rest) (suc (length rest)) (omega arith) (λ _ _ _ q. clash (cc)) in
         as_asked l Snapshot (o ∷ rest) new q _ _ e (asked_snapshot (o ∷ rest) new (omega arith) fits)
-        (λ a. (_, begins_snapshot _ _ a.3, shows_collect 0 0 collects_snapshot fits at_s6 (omega arith) refl)) a
+        (λ a. (_, begins_snapshot _ _, shows_collect 0 0 collects_snapshot fits at_s6 (omega arith) refl)) a
 
     kcss_begins : (rest : List (Operand V)) → request_of Kcss (o ∷ rest) new ≡ Some q → Begun l Kcss (o ∷ rest) new q
     kcss_begins rest e =
@@ -134,7 +134,7 @@ module _ {V : Type 0} (any : V) (t n b m c : ℕ) where
         let s : 1 + i ≡ suc i = omega arith in
         let w = gave wanted rest r.0 r.1 i y (rw s at g) in expects y w.0 w.1)) in
         rw u.1 (as_asked l Kcss (o ∷ rest) (Some u.0) q _ _ e (ap (request_of Kcss (o ∷ rest)) u.1 ∙ asked_kcss x.1 fits)
-        (λ a. rw a.1 (_, begins_kcss _ _ _ _ _ a.3, shows_link (links_kcss x.1 fits) at_attempt)) a)
+        (λ a. rw a.1 (_, begins_kcss _ _ _ _ _, shows_link (links_kcss x.1 fits) at_attempt)) a)
 
   starts : (l : maybe.Option ℕ) (kind : OperationKind) (ops : List (Operand V)) (new : Option V) (q : Request V) → counted kind (length ops) ≡ true
       → request_of kind ops new ≡ Some q → Allowed (proc n l b resting) q → Begun l kind ops new q
