@@ -2,7 +2,6 @@
 -- The cells and processes are functions, whose changes are unfolded.
 use Rattle.std.proofs.Common.{◌≡◌, ℕ, zero, suc, List, sym, refl, subst, arith}
 use Rattle.protocol.specs.World.{changed}
-use Rattle.protocol.specs.Operations.{Finished}
 use Rattle.protocol.specs.Replay.{Lawful}
 use Rattle.sample_runs.specs.Model.{Event, upd}
 use Rattle.erring_lines.specs.Runs.{finished_with}
@@ -29,10 +28,8 @@ unfolding upd
 snapshot_operations = refl
 
 pub snapshot_unlawful : SnapshotUnlawful
-unfolding changed
-snapshot_unlawful lawful =
-    let told = subst (λ (operations : List (Finished ℕ)). Lawful initial_store operations) snapshot_operations lawful in
-    let z : ◌≡◌ {A = ℕ} 5 6 = cc told.1.1.0 in omega arith
+unfolding upd changed
+snapshot_unlawful lawful = let z : ◌≡◌ {A = ℕ} 5 6 = cc lawful.1.1.0 in omega arith
 
 pub kcss_logs : KcssLogs
 unfolding upd

@@ -21,7 +21,11 @@ use Rattle.phases.specs.declared.turn.Turn.TheVariants as turn
 use Rattle.lines.specs.Suiting.{snapshot_from_lem}
 use Rattle.lines.specs.Comparing.{same_values_lem}
 use Rattle.lines.specs.Advancing.{finding_of_lem, turn_of, found_turn, go_to_operand, next_operand_lem, undisturbed, on}
-use Rattle.sample_runs.specs.Model.{Lines, code}
+use Rattle.sample_runs.specs.Model.{code}
+use Rattle.erring_lines.specs.Runs.{Lines}
+
+abbrev pub true_lines : Lines
+true_lines = record { finding = finding_of_lem; turn = turn_of code }
 
 -- what is so where a READ runs, and elsewhere
 abbrev pub in_read : {A : Type 0} → Phase ℕ → (ReadPhase ℕ → A) → A → A
