@@ -11,5 +11,6 @@ mod suits;
 pub use access::next_access;
 pub use moves::{advance, finding_of, read_turn};
 pub use phases::{
-    Access, Answer, Effect, Finding, Line, Milestone, Operand, Phase, Place, ReadPhase, ReadTurn, Seen, Turn,
+    Access, Answer, Effect, Finding, Line, Milestone, Operand, Phase, Place, ReadPhase, ReadTurn,
+    Seen, Turn,
 };

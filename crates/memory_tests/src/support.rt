@@ -7,7 +7,7 @@ use value::{Link, Node, Number, ValueKind};
 pub type Refusal = (u8, u8, usize);
 
 fn numbers(fault: MemoryFault) -> Refusal {
-    (fault.layer(), fault.number(), fault.place)
+    (fault.layer(), fault.number(), fault.place())
 }
 
 pub fn store<V: ValueKind, M: Memory<V>>(

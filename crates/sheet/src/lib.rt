@@ -2,8 +2,10 @@
 // what `sheet_format`, `sheet_reader` and `sheet_writer` offer to others.
 #![tactic(auto)]
 
+mod methods;
 mod trips;
 
+pub use methods::SheetBytes;
 pub use sheet_format::{
     Action, Operand, Operation, ReadError, ScriptItem, Sheet, SheetFault, SheetRefusal,
 };

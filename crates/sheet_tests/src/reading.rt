@@ -1,5 +1,6 @@
 // Reading: sheets that are read, and each refusal at its edges.
 use crate::support::{LINKS, NUMBERS, refusal};
+use sheet::{Sheet, SheetBytes};
 use std::alloc::{AllocError, Global};
 use std::test::Fail;
 use value::{Link, Number};
@@ -111,7 +112,7 @@ fn damaged_links(rt: HostRuntime) {
 // What was read is what stands there.
 #[test]
 fn parts_are_read(rt: HostRuntime) -> Result<(), Fail> {
-    let sheet = sheet::read::<Number>(rt.alloc(), &NUMBERS)
+    let sheet = Sheet::<Number>::read(rt.alloc(), &NUMBERS)
         .ok()
         .ok_or("refused")?;
     assert_eq!(rt; sheet.initial.len(), 2);

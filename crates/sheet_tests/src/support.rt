@@ -1,5 +1,5 @@
 // What the tests share: a small sheet of numbers, one of links, and what reading makes of bytes.
-use sheet::ReadError;
+use sheet::{ReadError, Sheet, SheetBytes};
 use std::alloc::Global;
 use value::ValueKind;
 
@@ -24,7 +24,7 @@ pub const LINKS: [u8; 79] = *b"\
 
 // The number and the place of the refusal with which reading meets the bytes; none if they are read.
 pub fn refusal<V: ValueKind>(heap: Global, bytes: &[u8]) -> Option<(u8, usize)> {
-    match sheet::read::<V>(heap, bytes) {
+    match Sheet::<V>::read(heap, bytes) {
         Ok(_) => None,
         Err(ReadError::Fault(fault)) => Some((fault.number(), fault.place)),
         Err(ReadError::NoMemory) => Some((0, 0)),

@@ -1,6 +1,6 @@
 // Writing: each refusal at its edges, an output that is too short by one, and bytes past the sheet.
 use crate::support::{LINKS, NUMBERS};
-use sheet::{Action, Operation, ScriptItem, Sheet};
+use sheet::{Action, Operation, ScriptItem, Sheet, SheetBytes};
 use std::alloc::{AllocError, Global};
 use std::test::Fail;
 use value::{Link, Number, ValueKind};
@@ -38,7 +38,7 @@ fn snapshot(heap: Global, count: u16) -> Result<Action<Number>, AllocError> {
 
 // The number and the place of the refusal, or 0 and the length that was written.
 fn written(sheet: &Sheet<Number>, out: &mut [u8]) -> (u8, usize) {
-    match sheet::write(sheet, out) {
+    match sheet.write(out) {
         Ok(length) => (0, length),
         Err(fault) => (fault.number(), fault.place),
     }
@@ -47,23 +47,23 @@ fn written(sheet: &Sheet<Number>, out: &mut [u8]) -> (u8, usize) {
 #[test]
 fn bytes_come_back(rt: HostRuntime) -> Result<(), Fail> {
     let mut out = [170; 100];
-    let numbers = sheet::read::<Number>(rt.alloc(), &NUMBERS)
+    let numbers = Sheet::<Number>::read(rt.alloc(), &NUMBERS)
         .ok()
         .ok_or("refused")?;
     assert_eq!(rt; written(&numbers, &mut out), (0, 82));
     assert!(rt; out[0..82] == NUMBERS[0..82]);
     assert_eq!(rt; out[82], 170);
-    let links = sheet::read::<Link>(rt.alloc(), &LINKS)
+    let links = Sheet::<Link>::read(rt.alloc(), &LINKS)
         .ok()
         .ok_or("refused")?;
-    assert_eq!(rt; sheet::write(&links, &mut out).ok(), Some(79));
+    assert_eq!(rt; links.write(&mut out).ok(), Some(79));
     assert!(rt; out[0..79] == LINKS[0..79]);
     Ok(())
 }
 
 #[test]
 fn short_output_is_untouched(rt: HostRuntime) -> Result<(), Fail> {
-    let numbers = sheet::read::<Number>(rt.alloc(), &NUMBERS)
+    let numbers = Sheet::<Number>::read(rt.alloc(), &NUMBERS)
         .ok()
         .ok_or("refused")?;
     let mut out = [170; 81];
