@@ -3,7 +3,7 @@ use Rattle.std.proofs.Common.{◌≡◌, ℕ, ◌+◌, ◌*◌, ◌≤◌, ◌&&
 use Rattle.std.proofs.lemmas.Bool.{and_parts, leb-true, eqb-true}
 use Rattle.sheet_format.specs.declared.header.Header.{Header}
 use Rattle.sheet_format.specs.Bytes.{field}
-use Rattle.sheet_format.specs.Reading.{within, header_answer}
+use Rattle.sheet_format.specs.Reading.{Placed, within, header_answer}
 use Rattle.sheet_format.proofs.Counts.{within_true}
 use Rattle.sheet_format.proofs.Steps.{ok_same, passed}
 
@@ -54,19 +54,18 @@ module _ (bytes : List ℕ) where
         ok_same _ h l.1,
       )
 
-  -- it counts a location at least, and puts the parts inside the sheet
-  pub record Placed (h : Header) : Type 0 where
-    pub some : 1 ≤ h.locations
-    pub values : 24 + 8 * h.locations ≤ length bytes
-    pub before : h.operations ≤ h.script
-    pub script_end_lem : h.script + h.items ≤ length bytes
-
-  pub placed : (number : ℕ) (h : Header) → header_answer bytes number ≡ Ok h → Placed h
+  -- it puts the parts inside the sheet
+  pub placed : (number : ℕ) (h : Header) → header_answer bytes number ≡ Ok h → Placed (length bytes) h
   placed number h e =
       let d = header_back number h e in
-      subst Placed d.1 (record {
-        some = d.0.locations.0;
+      subst (Placed (length bytes)) d.1 (record {
         values = omega (arith, d.0.operations_place, d.0.in_order, d.0.script_place);
         before = d.0.in_order;
-        script_end_lem = omega (arith, d.0.script_place);
+        script_end = omega (arith, d.0.script_place);
       })
+
+  -- and counts a location at least
+  pub some_location : (number : ℕ) (h : Header) → header_answer bytes number ≡ Ok h → 1 ≤ h.locations
+  some_location number h e =
+      let d = header_back number h e in
+      subst (λ (k : Header). 1 ≤ k.locations) d.1 d.0.locations.0

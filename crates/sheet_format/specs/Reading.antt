@@ -29,6 +29,12 @@ starts (Step p ∷ rest) = starts rest
 abbrev pub item_of : ℕ → Option ScriptItem
 item_of b = cond (nat_lt b 32) (Some (Step b)) (cond (b == 255) (Some Start) None)
 
+-- where a header that was found right puts the parts of a sheet of this length
+pub record Placed (long : ℕ) (h : Header) : Type 0 where
+  pub values : 24 + 8 * h.locations ≤ long
+  pub before : h.operations ≤ h.script
+  pub script_end : h.script + h.items ≤ long
+
 -- The first refusal of a header in a sheet of this length: 20 where the length is not the one it says; 21 for
 -- version, kind, L or P; 22 for an offset that is not where it must be. An offset that passes the total, or
 -- lies below the one before, is refused at its own byte.

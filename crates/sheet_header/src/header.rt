@@ -1,7 +1,7 @@
 // Reading a sheet's header: its length, version, kind, counts and offsets.
-ghost use Rattle.std.specs.Prelude.{◌≡◌, ◌<◌, ◌≤◌, length, Err, MatchOption};
+ghost use Rattle.std.specs.Prelude.{◌≡◌, ◌<◌, ◌≤◌, length, Err, IfOk, MatchOption};
 ghost use Rattle.sheet_format.specs.Faults.{fault};
-ghost use Rattle.sheet_format.specs.Reading.{header_answer, header_by, header_fields};
+ghost use Rattle.sheet_format.specs.Reading.{Placed, header_answer, header_by, header_fields};
 
 use sheet_format::{Header, RawHeader, SheetFault, SheetRefusal};
 
@@ -37,7 +37,8 @@ fn refused(refusal: SheetRefusal, place: usize) -> Result<Header, SheetFault>
 
 // The header, if it is right for a sheet of this length and kind.
 fn judge_header(raw: &RawHeader, length: usize, kind_number: u8) -> Result<Header, SheetFault>
-    ensures { result ≡ header_by raw.now length kind_number }
+    ensures answer { result ≡ header_by raw.now length kind_number }
+    ensures placed { IfOk result (λ h. Placed length h) }
 {
     let operations = raw.operations as usize;
     let script = raw.script as usize;
@@ -76,7 +77,8 @@ fn judge_header(raw: &RawHeader, length: usize, kind_number: u8) -> Result<Heade
 
 // What the header says, or the refusal with which it is met, for a sheet of values of one kind.
 pub fn read_header(bytes: &[u8], kind_number: u8) -> Result<Header, SheetFault>
-    ensures { result ≡ header_answer bytes.now kind_number }
+    ensures answer { result ≡ header_answer bytes.now kind_number }
+    ensures placed { IfOk result (λ h. Placed (length bytes.now) h) }
 {
     match raw_header(bytes) {
         Some(raw) => judge_header(&raw, bytes.len(), kind_number),
