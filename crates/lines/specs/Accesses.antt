@@ -1,7 +1,6 @@
 -- The access that a process makes next, with its line.
-use Rattle.std.specs.Prelude.{ℕ, Bool, true, false, cond, List, Some, None, Option}
+use Rattle.std.specs.Prelude.{ℕ, cond, List, Some, None, Option}
 use Rattle.memory.specs.declared.cell.TaggedId.{TaggedId}
-use Rattle.memory.specs.declared.cell.Cell.{Cell}
 use Rattle.memory.specs.declared.cell.Cell.TheVariants.{Value, Id}
 use Rattle.operation.specs.declared.kind.OperationKind.{OperationKind}
 use Rattle.operation.specs.declared.kind.OperationKind.TheVariants.{Read, Ll, Sc, Snapshot, Kcss}
@@ -12,7 +11,6 @@ use Rattle.phases.specs.declared.phase.ReadPhase.TheVariants.{Look, LookAgain, F
 use Rattle.phases.specs.declared.phase.Phase.{Phase}
 use Rattle.phases.specs.declared.phase.Phase.TheVariants.{Idle, Reading, Attempt, Linking, Save, Mark, Note, FirstId, FirstCollect, SecondCollect, SecondId, Swap}
 use Rattle.phases.specs.declared.records.Operand.{Operand}
-use Rattle.phases.specs.declared.records.Place.{Place}
 use Rattle.phases.specs.declared.records.Place.TheVariants.{Val, Tid, Saved}
 use Rattle.phases.specs.declared.records.Access.{Access}
 use Rattle.phases.specs.declared.records.Access.TheVariants.{Load, Store, Cas}

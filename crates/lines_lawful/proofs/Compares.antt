@@ -1,32 +1,24 @@
 -- The S9 of a SNAPSHOT: each step of the code is a line.
-use Rattle.std.proofs.Common.{◌≡◌, ℕ, zero, suc, ◌+◌, ◌<◌, ◌≤◌, Bool, true, false, cond, ltb, List, [], ◌∷◌, length, Some, None, Option, sym, refl, ap, ◌∙◌, subst, arith}
+use Rattle.std.proofs.Common.{◌≡◌, ℕ, suc, ◌+◌, ◌<◌, ◌≤◌, Bool, true, false, cond, ltb, List, length, Some, None, Option, sym, refl, ap, ◌∙◌, subst, arith}
 use mathlib.Core.Option as maybe
 use Rattle.std.proofs.lemmas.Bool.{ltb-true, ltb-false}
 use Rattle.memory.specs.declared.cell.Cell.{Cell}
 use Rattle.memory.specs.declared.cell.Cell.TheVariants.{Value, Id}
 use Rattle.memory.specs.declared.cell.TaggedId.{TaggedId}
 use Rattle.operation.specs.declared.kind.OperationKind.TheVariants.{Snapshot}
-use Rattle.phases.specs.declared.name.Line.TheVariants.{S6, S9}
 use Rattle.phases.specs.declared.phase.Phase as code-phase
-use Rattle.phases.specs.declared.phase.ReadPhase.{ReadPhase}
-use Rattle.phases.specs.declared.phase.ReadPhase.TheVariants.{Look, LookAgain, Fetch, Reset}
-use Rattle.phases.specs.declared.phase.Phase.TheVariants.{FirstId, FirstCollect, SecondCollect, SecondId}
+use Rattle.phases.specs.declared.phase.Phase.TheVariants.{FirstId, SecondId}
 use Rattle.phases.specs.declared.records.Operand.{Operand}
-use Rattle.phases.specs.declared.records.Place.TheVariants.{Tid}
-use Rattle.phases.specs.declared.records.Access.TheVariants.{Load}
-use Rattle.phases.specs.declared.records.Seen.TheVariants.{Found, Stored, Said}
+use Rattle.phases.specs.declared.records.Seen.TheVariants.{Found}
 use Rattle.phases.specs.declared.turn.Finding.{Finding}
 use Rattle.phases.specs.declared.turn.Finding.TheVariants as finding
-use Rattle.phases.specs.declared.turn.Milestone.TheVariants.{Collected}
 use Rattle.phases.specs.declared.turn.Turn.{Turn}
-use Rattle.phases.specs.declared.turn.Turn.TheVariants as turn
-use Rattle.lines.specs.Accesses.{read_access_lem}
 use Rattle.lines.specs.Advancing.{go_to_operand, undisturbed}
 use Rattle.lines.specs.Advancing as advancing
 use Rattle.lines.specs.Comparing.{operand_at, all_still_lem}
 use Rattle.protocol.specs.World.{World, changed}
 use Rattle.protocol.specs.Events.{Event, after}
-use Rattle.protocol.specs.Events.Event.{look, reset}
+use Rattle.protocol.specs.Events.Event.{look}
 use Rattle.protocol.specs.Operations.{Answer}
 use Rattle.protocol.specs.Operations.Answer.{values}
 use Rattle.protocol.specs.Phases as relation
@@ -36,16 +28,14 @@ use Rattle.protocol.specs.Phases.Purpose.{solo}
 use Rattle.protocol.specs.Phases.Phase.{resting, first_id, first_collect, second_collect, second_id}
 use Rattle.protocol.specs.Phases.Process.{proc}
 use Rattle.protocol.specs.Lines.{Line}
-use Rattle.protocol.specs.Lines.ReadLine.{line_13_value, line_13_id, line_1_value, line_1_id, line_3a, line_3b_yes, line_3b_no}
-use Rattle.protocol.specs.Lines.Line.{s6_on, s6_end, c1_on, c1_got, c1_end, c2_on, c2_got, c2_end, s9_on, s9_again, s9_solo}
-use Rattle.lines_lawful.specs.View.{Running, Cells, cells_of, Performing, When, and_then, at_operand, put_first, put_second, put_first_id, put_second_id}
+use Rattle.protocol.specs.Lines.Line.{s9_on, s9_again, s9_solo}
+use Rattle.lines_lawful.specs.View.{Running, cells_of, When, and_then, at_operand, put_second_id}
 use Rattle.lines_lawful.specs.View.Running.{runs}
-use Rattle.lines_lawful.specs.Steps.{Leads, Steps, MakesLines}
-use Rattle.lines_lawful.specs.Showing.{read_phase}
-use Rattle.lines_lawful.specs.Collecting.{Agree, Fits, ShowsSnapshot}
-use Rattle.lines_lawful.specs.Collecting.ShowsSnapshot.{shows_first_id, shows_first_collect, shows_second_collect, shows_second_id}
-use Rattle.lines_lawful.proofs.Small.{Seeing, cells_with_val}
-use Rattle.lines_lawful.proofs.Fitting.{has, refit, reach, same_rows, moved_rows, fit_places, fit_firsts, kept_places, asked_places, kept_link}
+use Rattle.lines_lawful.specs.Steps.{Leads}
+use Rattle.lines_lawful.specs.Collecting.{Fits, ShowsSnapshot}
+use Rattle.lines_lawful.specs.Collecting.ShowsSnapshot.{shows_first_id, shows_second_id}
+use Rattle.lines_lawful.proofs.Small.{Seeing}
+use Rattle.lines_lawful.proofs.Fitting.{refit, same_rows, moved_rows, fit_places, fit_firsts, kept_places, asked_places, kept_link}
 
 abbrev then_values : {V : Type 0} → Option (List V) → Option (Answer V)
 then_values x = and_then x (λ list. Some (values list))

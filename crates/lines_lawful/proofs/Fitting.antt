@@ -1,5 +1,5 @@
 -- Operands and rows: one of them changed, and all of them compared.
-use Rattle.std.proofs.Common.{◌≡◌, ℕ, zero, suc, ◌+◌, ◌<◌, Bool, true, false, ◌&&◌, eqb, ◌⊎◌, List, [], ◌∷◌, length, Some, None, Option, sym, refl, ap, ◌∙◌, subst, inl, inr, arith}
+use Rattle.std.proofs.Common.{◌≡◌, ℕ, zero, suc, ◌+◌, ◌<◌, true, false, eqb, ◌⊎◌, List, [], ◌∷◌, length, Some, Option, sym, refl, ap, ◌∙◌, subst, inl, inr, arith}
 use mathlib.Core.Option as maybe
 use Rattle.std.proofs.lemmas.Bool.{and_parts, and_cases, eqb-true, eq-eqb, both_ways}
 use Rattle.memory.specs.declared.cell.Cell.{Cell}

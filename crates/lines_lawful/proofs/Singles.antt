@@ -1,15 +1,13 @@
 -- A KCSS of one location: each step of the code is a line.
-use Rattle.std.proofs.Common.{◌≡◌, ℕ, zero, suc, Bool, true, false, cond, ◌&&◌, eqb, List, [], ◌∷◌, Some, None, Option, sym, refl, ap, subst, arith}
+use Rattle.std.proofs.Common.{◌≡◌, ℕ, zero, Bool, true, false, cond, ◌&&◌, eqb, [], ◌∷◌, Some, Option, sym, refl, ap, subst, arith}
 use mathlib.Core.Option as maybe
 use Rattle.memory.specs.declared.cell.Cell.{Cell}
 use Rattle.memory.specs.declared.cell.TaggedId.{TaggedId}
 use Rattle.memory.specs.declared.cell.Cell.TheVariants.{Value, Id}
 use Rattle.phases.specs.declared.phase.ReadPhase.{ReadPhase}
 use Rattle.phases.specs.declared.phase.ReadPhase.TheVariants.{Look, LookAgain, Fetch, Reset}
-use Rattle.phases.specs.declared.phase.Phase.TheVariants.{Reading, Attempt, Linking, Save, Mark, Note, Swap}
-use Rattle.phases.specs.declared.records.Operand.{Operand}
-use Rattle.phases.specs.declared.records.Seen.{Seen}
-use Rattle.phases.specs.declared.records.Seen.TheVariants.{Found, Stored, Said}
+use Rattle.phases.specs.declared.phase.Phase.TheVariants.{Attempt, Linking, Save, Mark, Note, Swap}
+use Rattle.phases.specs.declared.records.Seen.TheVariants.{Found}
 use Rattle.lines.specs.Advancing.{finding_of_lem, turn_of}
 use Rattle.protocol.specs.World.{World, changed, id_cell}
 use Rattle.protocol.specs.Events.{Event, after}
@@ -18,7 +16,7 @@ use Rattle.protocol.specs.Phases as relation
 use Rattle.protocol.specs.Phases.Process.{proc}
 use Rattle.protocol.specs.Lines.{Line}
 use Rattle.protocol.specs.Lines.ReadLine.{line_13_value, line_13_id, line_1_value, line_1_id, line_3a, line_3b_yes, line_3b_no}
-use Rattle.lines_lawful.specs.Steps.{Showing, Leads, Steps, MakesLines}
+use Rattle.lines_lawful.specs.Steps.{Leads, Steps, MakesLines}
 use Rattle.std.proofs.lemmas.Bool.{eqb-true, eqb-false}
 use Rattle.operation.specs.declared.kind.OperationKind.TheVariants.{Kcss}
 use Rattle.phases.specs.declared.records.Place.TheVariants.{Val}

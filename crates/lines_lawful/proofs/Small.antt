@@ -1,5 +1,5 @@
 -- The operations of one location: each step of the code is a line.
-use Rattle.std.proofs.Common.{◌≡◌, ℕ, suc, Bool, true, false, List, [], ◌∷◌, Some, None, Option, sym, refl, ap}
+use Rattle.std.proofs.Common.{◌≡◌, ℕ, Bool, true, false, [], ◌∷◌, Some, Option, refl, ap}
 use mathlib.Core.Option as maybe
 use Rattle.memory.specs.declared.cell.Cell.{Cell}
 use Rattle.memory.specs.declared.cell.TaggedId.{TaggedId}
@@ -9,7 +9,7 @@ use Rattle.phases.specs.declared.phase.ReadPhase.TheVariants.{Look, LookAgain, F
 use Rattle.phases.specs.declared.phase.Phase.TheVariants.{Reading, Attempt, Linking, Save, Mark, Note, Swap}
 use Rattle.phases.specs.declared.records.Operand.{Operand}
 use Rattle.phases.specs.declared.records.Seen.{Seen}
-use Rattle.phases.specs.declared.records.Seen.TheVariants.{Found, Stored, Said}
+use Rattle.phases.specs.declared.records.Seen.TheVariants.{Found}
 use Rattle.operation.specs.declared.kind.OperationKind.TheVariants.{Read, Ll, Sc}
 use Rattle.lines.specs.Advancing.{finding_of_lem, turn_of}
 use Rattle.protocol.specs.World.{World, changed, id_cell}

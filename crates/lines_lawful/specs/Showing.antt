@@ -1,5 +1,5 @@
 -- Which phase of the relation each state of the code stands for.
-use Rattle.std.specs.Prelude.{ℕ, Bool, true, false, List, [], ◌∷◌, Some, None, Option}
+use Rattle.std.specs.Prelude.{ℕ, Bool, true, false, [], ◌∷◌, Some, Option}
 use Rattle.std.proofs.Math.Option as maybe
 use Rattle.memory.specs.declared.cell.Cell.TheVariants.{Value}
 use Rattle.operation.specs.declared.kind.OperationKind.TheVariants.{Read, Ll, Sc}

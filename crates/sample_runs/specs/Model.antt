@@ -3,12 +3,10 @@
 use Rattle.std.specs.Prelude.{ℕ, zero, suc, Bool, true, false, cond, List, [], ◌∷◌, Some, None, Option, ◌==◌, nat_lt}
 use Rattle.memory.specs.declared.cell.TaggedId.{TaggedId}
 use Rattle.memory.specs.declared.cell.Cell.{Cell}
-use Rattle.memory.specs.declared.cell.Cell.TheVariants.{Value, Id}
 use Rattle.memory.specs.Cells.{same}
 use Rattle.operation.specs.declared.kind.OperationKind.{OperationKind}
 use Rattle.operation.specs.declared.kind.OperationKind.TheVariants.{Read, Ll, Sc, Snapshot, Kcss}
 use Rattle.phases.specs.declared.name.Line.{Line}
-use Rattle.phases.specs.declared.phase.ReadPhase.{ReadPhase}
 use Rattle.phases.specs.declared.phase.ReadPhase.TheVariants.{Look}
 use Rattle.phases.specs.declared.phase.Phase.{Phase}
 use Rattle.phases.specs.declared.phase.Phase.TheVariants.{Idle, Reading, Attempt, Linking, Save, Mark, Note, FirstId, FirstCollect, SecondCollect, SecondId, Swap}

@@ -1,9 +1,9 @@
 -- Sample runs of the model, from a machine whose locations 0 and 1 hold 5 and 7: what ends, when, and with which answer.
 -- Operations are numbered from 1 in the order of their starts.
-use Rattle.std.specs.Prelude.{◌≡◌, ℕ, zero, suc, cond, List, [], ◌∷◌, Some, None, Option, ◌==◌}
+use Rattle.std.specs.Prelude.{◌≡◌, ℕ, zero, suc, cond, List, [], ◌∷◌, Some, None, ◌==◌}
 use Rattle.memory.specs.declared.cell.Cell.TheVariants.{Value, Id}
 use Rattle.operation.specs.declared.kind.OperationKind.TheVariants.{Read, Ll, Sc, Snapshot, Kcss}
-use Rattle.sample_runs.specs.Model.{Event, Outcome, Machine, Command, no_id, run}
+use Rattle.sample_runs.specs.Model.{Machine, Command, no_id, run}
 use Rattle.sample_runs.specs.Model.Event.{ended, refused}
 use Rattle.sample_runs.specs.Model.Outcome.{gave, said_yes, said_no}
 use Rattle.sample_runs.specs.Model.Command.{start, step}

@@ -1,15 +1,11 @@
 -- The ways in which the reading of an operation's head ends.
-use Rattle.std.proofs.Common.{◌≡◌, ℕ, ◌+◌, ◌-◌, ◌<◌, ◌≤◌, Bool, true, false, ◌&&◌, ◌||◌, eqb, leb, List, get_or, Some, None, Ok, Err, Option, sym, refl, ap, ◌∙◌, arith}
+use Rattle.std.proofs.Common.{◌≡◌, ℕ, ◌+◌, ◌-◌, ◌<◌, ◌≤◌, Bool, true, false, leb, List, get_or, Some, None, Ok, Err, ap, ◌∙◌, arith}
 use Rattle.std.proofs.lemmas.Bool.Decides.{nat_tests}
 use Rattle.sheet_format.specs.declared.fault.SheetRefusal.TheVariants.{WrongOperation}
-use Rattle.sheet_format.specs.declared.head.OperationHead.{OperationHead}
 use Rattle.operation.specs.declared.kind.OperationKind.{OperationKind}
-use Rattle.operation.specs.declared.kind.OperationKind.TheVariants.{Read, Ll, Sc, Snapshot, Kcss}
-use Rattle.sheet_format.specs.Bytes.{field}
 use Rattle.sheet_format.specs.Faults.{fault, require}
-use Rattle.sheet_format.specs.Format.{size_by}
-use Rattle.operation.specs.Kinds.{kind_of, counted, takes_new_lem, takes_expected_lem}
-use Rattle.sheet_format.specs.Reading.{head_answer, head_by, head_fits_lem, unused}
+use Rattle.operation.specs.Kinds.{kind_of}
+use Rattle.sheet_format.specs.Reading.{head_answer, head_by, head_fits_lem}
 
 module _ (bytes : List ℕ) (at end : ℕ) where
   pub head_short : end - at < 12 → head_answer bytes at end ≡ Err (fault WrongOperation at)

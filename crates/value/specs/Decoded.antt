@@ -1,12 +1,10 @@
-use Rattle.std.specs.Prelude.{◌≡◌, ℕ, ◌+◌, ◌*◌, ◌/◌, ◌%◌, ◌^◌, ◌<◌, ◌≤◌, Bool, true, false, cond, Some, None, Option, ◌==◌, refl}
-use Rattle.std.proofs.Common.{ap, sym, subst, ◌∙◌, arith}
+use Rattle.std.specs.Prelude.{◌≡◌, ℕ, ◌+◌, ◌*◌, ◌/◌, ◌%◌, ◌^◌, ◌<◌, ◌≤◌, Bool, cond, Some, None, ◌==◌, refl}
+use Rattle.std.proofs.Common.{ap, subst, arith}
 use Rattle.std.proofs.Math.Bridge.{le_prop}
 use Rattle.std.proofs.Math.Decide.{dec_lt}
-use Rattle.value.specs.declared.number.Number.{Number}
-use Rattle.value.specs.declared.link.Node.{Node}
 use Rattle.value.specs.declared.link.Link.{Link}
 use Rattle.value.specs.declared.link.Link.TheVariants.{Nothing, To}
-use Rattle.value.specs.Codes.{number_by, number_of, link_code, node_by, link_by, link_of}
+use Rattle.value.specs.Codes.{number_by, number_of, node_by, link_by, link_of}
 use Rattle.std.proofs.lemmas.Bool.Decides.{nat_tests}
 
 number_by_at : (c : ℕ) (d : Dec (c < 2 ^ 63)) (p : c < 2 ^ 63) → number_by c d ≡ Some (record { value = c; small = p })

@@ -2,7 +2,7 @@
 ghost use Rattle.std.specs.Prelude.{◌≡◌, ◌-◌, ◌^◌};
 ghost use Rattle.value.specs.Codes.{number_of};
 ghost use Rattle.value.specs.Decoded.{number_at};
-ghost use Rattle.std.proofs.Common.{rules, arith};
+ghost use Rattle.std.proofs.Common.{rules};
 
 use crate::kind::ValueKind;
 use crate::number::Number;
@@ -22,13 +22,13 @@ impl ValueKind for Number {
 
     ghost returned = { λ v. number_at v.value v.small };
 
-    ghost kept = { first_of (Prim.search rules, Prim.grind (arith, Self.row.coded.inj)) };
+    ghost kept = { Prim.search rules };
 
-    ghost bounded = { first_of (Prim.search rules, Prim.grind (arith, Self.row.coded.inj)) };
+    ghost bounded = { Prim.search rules };
 
-    ghost capped = { first_of (Prim.search rules, Prim.grind (arith, Self.row.coded.inj)) };
+    ghost capped = { Prim.search rules };
 
-    ghost numbered = { first_of (Prim.search rules, Prim.grind (arith, Self.row.coded.inj)) };
+    ghost numbered = { Prim.search rules };
 
     fn kind_number() -> u8 {
         Self::KIND

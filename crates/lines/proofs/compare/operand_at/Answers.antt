@@ -1,4 +1,4 @@
-use Rattle.std.proofs.Common.{Some, None, sym, ap, ◌∙◌}
+use Rattle.std.proofs.Common.{Some, sym, ap, ◌∙◌}
 use Rattle.lines.proofs.Walks.{at_some, at_none}
 use Rattle.lines.proofs.compare.operand_at.Goals as goal
 

@@ -1,4 +1,4 @@
-use Rattle.std.proofs.Common.{ℕ, ◌+◌, ◌≤◌, ◌++◌, get_or, drop, string_bytes, sym, refl, ap, ◌∙◌, arith}
+use Rattle.std.proofs.Common.{ℕ, ◌+◌, ◌≤◌, ◌++◌, get_or, drop, string_bytes, sym, refl, ap, arith}
 use Rattle.sheet.specs.declared.ScriptItem.{ScriptItem}
 use Rattle.sheet.specs.declared.ScriptItem.TheVariants.{Start, Step}
 use Rattle.report.specs.Lines.{schedule_heading, item_line, started_by}

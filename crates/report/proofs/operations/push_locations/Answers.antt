@@ -1,4 +1,4 @@
-use Rattle.std.proofs.Common.{ℕ, ◌++◌, get_or, string_bytes, refl, ap, ◌∙◌}
+use Rattle.std.proofs.Common.{ℕ, ◌++◌, get_or, string_bytes, refl}
 use Rattle.std.specs.List.{flat_map}
 use Rattle.report.specs.Lines.{spaced}
 use Rattle.report.proofs.Adding.{row_more, row_all}

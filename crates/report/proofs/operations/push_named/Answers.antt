@@ -1,4 +1,4 @@
-use Rattle.std.proofs.Common.{ℕ, ◌++◌, get_or, string_bytes, refl, ap, ◌∙◌}
+use Rattle.std.proofs.Common.{◌++◌, get_or, string_bytes, refl, ap, ◌∙◌}
 use Rattle.std.specs.List.{flat_map}
 use Rattle.sheet.specs.declared.Operand.{Operand}
 use Rattle.report.specs.Lines.{spaced}
