@@ -11,7 +11,7 @@ use value::ValueKind;
 
 // A table of words, of which the first 65,535 count, and the kind of the values that they stand for.
 #[derive(Drop)]
-pub struct PackedMemory<'a, V: 'a> {
+pub struct PackedMemory<'a, V> {
     pub words: &'a mut [u64],
     pub kind: PhantomData<V>,
 }

@@ -32,7 +32,7 @@ fn raw_header(bytes: &[u8]) -> Option<RawHeader>
 fn refused(refusal: SheetRefusal, place: usize) -> Result<Header, SheetFault>
     ensures { result ≡ Err (fault refusal place) }
 {
-    Err(SheetFault { refusal, place })
+    Err(SheetFault::new(refusal, place))
 }
 
 // The header, if it is right for a sheet of this length and kind.

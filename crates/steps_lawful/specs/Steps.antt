@@ -66,7 +66,8 @@ MakesLines {V = V} code Shows = (t p n b : ℕ) (l : maybe.Option ℕ) (w : Worl
     → w.tag p ≡ n → Shows running l ph → Steps Shows t p n b l code (Unit {0}) w running ph
 
 -- The same, and the code does have a finding and a turn, if the cells and the phase are sound, as they are at every step of
--- a run: every tid is an id, and an id in a val or kept by a READ names a process whose saved cell is a value.
+-- a run: every tid is an id; an id in a val or kept by a READ names a process whose saved cell is a value; a process in an
+-- LL, an SC or a KCSS has no link; and at line 8 its own saved cell is the value that it saved.
 abbrev pub NeverSticks : {V : Type 0} → (V → ℕ) → Showing V → Type 0
 NeverSticks {V = V} code Shows = (t p n b : ℕ) (l : maybe.Option ℕ) (w : World V) (running : Running V) (ph : Phase V)
     → w.tag p ≡ n → Shows running l ph → CellsSound w → PhaseSound w.saved p l ph
