@@ -1,6 +1,7 @@
 -- Three errors in the lines.
 -- Each differs from the true lines in one place.
-use Rattle.std.specs.Prelude.{ℕ, Bool, true, cond, ◌&&◌, List, [], ◌∷◌, length, drop, Some, None, Option}
+use Rattle.std.specs.Prelude.{ℕ, Bool, cond, List, length, drop, Some, None, Option}
+use Rattle.std.specs.List.{list_all}
 use Rattle.memory.specs.declared.cell.Cell.{Cell}
 use Rattle.memory.specs.declared.cell.Cell.TheVariants.{Value, Id}
 use Rattle.operation.specs.declared.kind.OperationKind.{OperationKind}
@@ -18,14 +19,10 @@ use Rattle.phases.specs.declared.turn.Answer.{Answer}
 use Rattle.phases.specs.declared.turn.Answer.TheVariants.{Values, Yes, No}
 use Rattle.phases.specs.declared.turn.Turn.{Turn}
 use Rattle.phases.specs.declared.turn.Turn.TheVariants as turn
-use Rattle.lines.specs.Suiting.{snapshot_from_lem}
-use Rattle.lines.specs.Comparing.{same_values_lem}
-use Rattle.lines.specs.Advancing.{finding_of_lem, turn_of, found_turn, go_to_operand, next_operand_lem, undisturbed, on}
-use Rattle.sample_runs.specs.Model.{code}
-use Rattle.erring_lines.specs.Runs.{Lines}
-
-abbrev pub true_lines : Lines
-true_lines = record { finding = finding_of_lem; turn = turn_of code }
+use Rattle.lines.specs.Suiting.{snapshot_from}
+use Rattle.lines.specs.Comparing.{same_values}
+use Rattle.lines.specs.Advancing.{finding_of, turn_of, found_turn, go_to_operand, next_operand, undisturbed, on}
+use Rattle.sample_runs.specs.Model.{code, Lines}
 
 -- what is so where a READ runs, and elsewhere
 abbrev pub in_read : {A : Type 0} → Phase ℕ → (ReadPhase ℕ → A) → A → A
@@ -77,7 +74,7 @@ fetched (Reset kept saved) seen f other = other
 -- 3a of a READ ends it with the saved value, and the id is left in val
 abbrev pub leaves_id : Lines
 leaves_id = record {
-  finding = λ phase seen. in_read phase (λ read. fetched read seen (λ v. Some (finding.First 0 v)) (finding_of_lem phase seen)) (finding_of_lem phase seen);
+  finding = λ phase seen. in_read phase (λ read. fetched read seen (λ v. Some (finding.First 0 v)) (finding_of phase seen)) (finding_of phase seen);
   turn = λ kind operands phase seen. in_read phase
       (λ read. fetched read seen (λ v. Some (turn.Ends Values Here)) (turn_of code kind operands phase seen))
       (turn_of code kind operands phase seen);
@@ -85,18 +82,17 @@ leaves_id = record {
 
 -- both values of every operand are the same, whatever its ids are
 abbrev pub all_values_same : List (Operand ℕ) → Bool
-all_values_same [] = true
-all_values_same (o ∷ rest) = same_values_lem code o.first o.second && all_values_same rest
+all_values_same operands = list_all (λ o. same_values code o.first o.second) operands
 
 abbrev pub compared_by_values : OperationKind → List (Operand ℕ) → Option (Turn ℕ)
-compared_by_values kind operands = cond (all_values_same (drop (snapshot_from_lem kind) operands)) (undisturbed kind) (on (FirstId (snapshot_from_lem kind)))
+compared_by_values kind operands = cond (all_values_same (drop (snapshot_from kind) operands)) (undisturbed kind) (on (FirstId (snapshot_from kind)))
 
 -- the last S9 compares the values only
 abbrev pub compares_values_only : Lines
 compares_values_only = record {
-  finding = finding_of_lem;
+  finding = finding_of;
   turn = λ kind operands phase seen. in_second_id phase
-      (λ operand. found_turn seen (go_to_operand (next_operand_lem operand (length operands)) SecondId (compared_by_values kind operands)))
+      (λ operand. found_turn seen (go_to_operand (next_operand operand (length operands)) SecondId (compared_by_values kind operands)))
       (turn_of code kind operands phase seen);
 }
 
@@ -113,6 +109,6 @@ yes_ends_here (Some (turn.Ends answer effect)) = Some (turn.Ends answer (yes_her
 -- a yes has its effect at 11, of a KCSS of two locations too
 abbrev pub logs_at_swap : Lines
 logs_at_swap = record {
-  finding = finding_of_lem;
+  finding = finding_of;
   turn = λ kind operands phase seen. yes_ends_here (turn_of code kind operands phase seen);
 }

@@ -7,13 +7,13 @@ use Rattle.protocol.specs.Operations.Request.{read, ll, sc, snapshot, kcss}
 use Rattle.protocol.specs.Operations.Answer.{values, said}
 use Rattle.protocol.specs.Store.{Store, opened_store}
 use Rattle.protocol.specs.Replay.{Lawful}
-use Rattle.sample_runs.specs.Model.{Event, Command}
+use Rattle.sample_runs.specs.Model.{Event, Command, Lines, true_lines}
 use Rattle.sample_runs.specs.Model.Event.{ended}
 use Rattle.sample_runs.specs.Model.Outcome.{gave, said_yes}
 use Rattle.sample_runs.specs.Model.Command.{start, step}
 use Rattle.sample_runs.specs.Samples.{steps_of}
-use Rattle.erring_lines.specs.Runs.{Lines, log_by, operations_by, finished_with}
-use Rattle.erring_lines.specs.Erring.{true_lines, leaves_id, compares_values_only, logs_at_swap}
+use Rattle.erring_lines.specs.Runs.{log_by, operations_by, finished_with}
+use Rattle.erring_lines.specs.Erring.{leaves_id, compares_values_only, logs_at_swap}
 
 abbrev pub initial_store : Store ℕ
 initial_store = opened_store (λ a. cond (a == 0) 5 7)

@@ -1,66 +1,24 @@
--- Runs of the model with given lines in place of the true ones, and the list of finished operations that a run logs.
--- The lines say what is recorded and where a process goes then; the accesses are the true ones.
-use Rattle.std.specs.Prelude.{ℕ, zero, suc, true, false, cond, List, [], ◌∷◌, ◌++◌, Some, None, Option, ◌==◌, nat_lt}
+-- Runs of the model with given lines, and the list of finished operations that a run logs.
+use Rattle.std.specs.Prelude.{ℕ, zero, suc, true, false, cond, List, [], ◌∷◌, ◌++◌, Some, None, Option, ◌==◌, map}
 use Rattle.operation.specs.declared.kind.OperationKind.{OperationKind}
 use Rattle.operation.specs.declared.kind.OperationKind.TheVariants.{Read, Ll, Sc, Snapshot, Kcss}
-use Rattle.phases.specs.declared.name.Line.{Line}
-use Rattle.phases.specs.declared.phase.Phase.{Phase}
-use Rattle.phases.specs.declared.records.Operand.{Operand}
-use Rattle.phases.specs.declared.records.Access.{Access}
-use Rattle.phases.specs.declared.records.Seen.{Seen}
-use Rattle.phases.specs.declared.turn.Finding.{Finding}
-use Rattle.phases.specs.declared.turn.Turn.{Turn}
-use Rattle.lines.specs.Accesses.{next_access_lem}
 use Rattle.protocol.specs.Operations.{Expected, Request, Answer, Finished}
 use Rattle.protocol.specs.Operations.Request.{read, ll, sc, snapshot, kcss}
 use Rattle.protocol.specs.Operations.Answer.{values, said}
 use Rattle.protocol.specs.Lists.{by_effect}
-use Rattle.sample_runs.specs.Model.{Running, Process, Outcome, Event, Machine, Command, code, with_event, seen_by, after_access, with_step, recorded, noting, turns, is_attempt, raised, starts}
+use Rattle.sample_runs.specs.Model.{Outcome, Event, Command, Lines, run}
 use Rattle.sample_runs.specs.Model.Outcome.{gave, said_yes, said_no}
 use Rattle.sample_runs.specs.Model.Event.{ended, refused, misfit}
 use Rattle.sample_runs.specs.Model.Command.{start, step}
 use Rattle.sample_runs.specs.Samples.{opening}
 
--- what a line records in an operand, and where it leads
-pub record Lines : Type 0 where
-  pub finding : Phase ℕ → Seen ℕ → Option (Finding ℕ)
-  pub turn : OperationKind → List (Operand ℕ) → Phase ℕ → Seen ℕ → Option (Turn ℕ)
-
-module _ (lines : Lines) where
-  abbrev pub finds_by : Machine → Machine → ℕ → Process → Running → Seen ℕ → Option (Finding ℕ) → Machine
-  finds_by m n p q r seen None = with_event m (misfit p)
-  finds_by m n p q r seen (Some f) = turns m n p q (noting r n.steps f) (lines.turn r.kind (recorded r.operands f) r.phase seen)
-
-  abbrev pub accesses_by : Machine → ℕ → Process → Running → Option (Line × Access ℕ) → Machine
-  accesses_by m p q r None = with_event m (misfit p)
-  accesses_by m p q r (Some x) = finds_by m (after_access (with_step m) x.1) p q r (seen_by m x.1) (lines.finding r.phase (seen_by m x.1))
-
-  abbrev pub goes_by : Machine → ℕ → Process → Running → Machine
-  goes_by m p q r = accesses_by m p q r (next_access_lem code (record { process = p; tag = q.tag }) r.kind r.operands r.new r.phase)
-
-  abbrev pub steps_by : Machine → ℕ → Process → Option Running → Machine
-  steps_by m p q None = with_event m (misfit p)
-  steps_by m p q (Some r) =
-      cond (is_attempt r.phase)
-      (cond (nat_lt q.tag m.greatest_tag) (goes_by m p (raised q) r) (with_event m (refused p 14)))
-      (goes_by m p q r)
-
-  abbrev pub obey_by : Machine → Command → Machine
-  obey_by m (start p kind given new) = starts m p (m.processes p) kind given new (m.processes p).running
-  obey_by m (step p) = steps_by m p (m.processes p) (m.processes p).running
-
-  abbrev pub run_by : Machine → List Command → Machine
-  run_by m [] = m
-  run_by m (c ∷ rest) = run_by (obey_by m c) rest
-
-  -- what a script logs, from a machine whose locations 0 and 1 hold 5 and 7
-  abbrev pub log_by : List Command → List Event
-  log_by script = (run_by (opening 1000) script).trace
+-- what these lines log of a script, from a machine whose locations 0 and 1 hold 5 and 7
+abbrev pub log_by : Lines → List Command → List Event
+log_by lines script = (run lines (opening 1000) script).trace
 
 -- what a start asks; none where its operands do not suit its kind
 abbrev pub locations : List (ℕ × Option ℕ) → List ℕ
-locations [] = []
-locations (x ∷ rest) = x.0 ∷ locations rest
+locations given = map (λ x. x.0) given
 
 abbrev pub expecting : ℕ → Option ℕ → List (Expected ℕ) → List (Expected ℕ)
 expecting location None rest = rest

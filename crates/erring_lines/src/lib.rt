@@ -5,8 +5,6 @@
 ghost use Rattle.erring_lines.specs.Errors.{AllErrors};
 
 // Every run of erring lines logs what is written, which the store does not allow; of the true lines it does.
-pub fn errors_are_unlawful() -> u8
+pub fn errors_are_unlawful()
     ensures { AllErrors }
-{
-    0
-}
+{}

@@ -3,7 +3,6 @@
 #![tactic(auto)]
 
 ghost use Rattle.std.specs.Prelude.{◌≡◌};
-ghost use Rattle.memory.specs.Rules.{store_answer, store_after, cas_answer, cas_after};
 
 use memory::{Cell, Limits, Memory, MemoryFault};
 use value::ValueKind;
@@ -19,6 +18,11 @@ impl<'a, V: ValueKind, M: Memory<V>> Memory<V> for Lent<'a, M> {
 
     ghost limits = { λ m. M.Memory.limits m.memory.now };
 
+    // It stays the memory that was lent, so its owner gets it back as the call left it.
+    ghost store_leaves = { λ m i cell answer n. M.Memory.store_leaves m.memory.now i cell answer n.memory.now × (n.memory.ghost_name ≡ m.memory.ghost_name) };
+
+    ghost cas_leaves = { λ m i cell answer n. M.Memory.cas_leaves m.memory.now i cell answer n.memory.now × (n.memory.ghost_name ≡ m.memory.ghost_name) };
+
     ghost few = { λ m. M.Memory.few m.memory.now };
 
     fn len(&self) -> usize {
@@ -33,22 +37,11 @@ impl<'a, V: ValueKind, M: Memory<V>> Memory<V> for Lent<'a, M> {
         self.memory.load(i)
     }
 
-    // Beyond the interface, it stays the memory that was lent, so its owner gets it back as the Store left it.
-    fn store(&mut self, i: usize, cell: &Cell<V>) -> Result<(), MemoryFault>
-        ensures answer { result ≡ store_answer V.coded (M.Memory.limits self.old.memory.now) (M.Memory.cells self.old.memory.now) i cell.now }
-        ensures after { M.Memory.cells self.new.memory.now ≡ store_after V.coded (M.Memory.limits self.old.memory.now) (M.Memory.cells self.old.memory.now) i cell.now }
-        ensures kept { M.Memory.limits self.new.memory.now ≡ M.Memory.limits self.old.memory.now }
-        ensures lender { self.new.memory.ghost_name ≡ self.old.memory.ghost_name }
-    {
+    fn store(&mut self, i: usize, cell: &Cell<V>) -> Result<(), MemoryFault> {
         self.memory.store(i, cell)
     }
 
-    fn cas(&mut self, i: usize, old: &Cell<V>, new: &Cell<V>) -> Result<bool, MemoryFault>
-        ensures answer { result ≡ cas_answer V.coded (M.Memory.limits self.old.memory.now) (M.Memory.cells self.old.memory.now) i old.now new.now }
-        ensures after { M.Memory.cells self.new.memory.now ≡ cas_after V.coded (M.Memory.limits self.old.memory.now) (M.Memory.cells self.old.memory.now) i old.now new.now }
-        ensures kept { M.Memory.limits self.new.memory.now ≡ M.Memory.limits self.old.memory.now }
-        ensures lender { self.new.memory.ghost_name ≡ self.old.memory.ghost_name }
-    {
+    fn cas(&mut self, i: usize, old: &Cell<V>, new: &Cell<V>) -> Result<bool, MemoryFault> {
         self.memory.cas(i, old, new)
     }
 }

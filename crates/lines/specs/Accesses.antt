@@ -1,5 +1,5 @@
 -- The access that a process makes next, with its line.
-use Rattle.std.specs.Prelude.{ℕ, cond, List, Some, None, Option}
+use Rattle.std.specs.Prelude.{ℕ, cond, List, Some, None, Option, option_and_then}
 use Rattle.memory.specs.declared.cell.TaggedId.{TaggedId}
 use Rattle.memory.specs.declared.cell.Cell.TheVariants.{Value, Id}
 use Rattle.operation.specs.declared.kind.OperationKind.{OperationKind}
@@ -18,15 +18,11 @@ use Rattle.lines.specs.Suiting.{suiting}
 use Rattle.lines.specs.Comparing.{operand_at, all_meet}
 
 -- 13 and 1 load val; 3a loads the saved value of the kept id's process; 3b CASes val from the kept id to it
-abbrev pub read_access_lem : {V : Type 0} → ℕ → ReadPhase V → Line × Access V
-read_access_lem location Look = (L13, Load (Val location))
-read_access_lem location LookAgain = (L1, Load (Val location))
-read_access_lem location (Fetch kept) = (L3a, Load (Saved kept.process))
-read_access_lem location (Reset kept saved) = (L3b, Cas (Val location) (Id kept) (Value saved))
-
-abbrev pub first_of : {V : Type 0} → Option (Operand V) → Option V
-first_of None = None
-first_of (Some o) = o.first
+abbrev pub read_access : {V : Type 0} → ℕ → ReadPhase V → Line × Access V
+read_access location Look = (L13, Load (Val location))
+read_access location LookAgain = (L1, Load (Val location))
+read_access location (Fetch kept) = (L3a, Load (Saved kept.process))
+read_access location (Reset kept saved) = (L3b, Cas (Val location) (Id kept) (Value saved))
 
 abbrev pub with_place : {V A : Type 0} → Option (Operand V) → (ℕ → Option A) → Option A
 with_place None f = None
@@ -34,12 +30,12 @@ with_place (Some o) f = f o.location
 
 module _ {V : Type 0} (code : V → ℕ) where
   -- 11 writes the new value; where a value of a KCSS differs from its expected one, the LL's value
-  abbrev pub swap_value_lem : OperationKind → List (Operand V) → Option V → Option V
-  swap_value_lem Read operands new = new
-  swap_value_lem Ll operands new = new
-  swap_value_lem Sc operands new = new
-  swap_value_lem Snapshot operands new = new
-  swap_value_lem Kcss operands new = cond (all_meet code operands) new (first_of (operand_at operands 0))
+  abbrev pub swap_value : OperationKind → List (Operand V) → Option V → Option V
+  swap_value Read operands new = new
+  swap_value Ll operands new = new
+  swap_value Sc operands new = new
+  swap_value Snapshot operands new = new
+  swap_value Kcss operands new = cond (all_meet code operands) new (option_and_then (λ o. o.first) (operand_at operands 0))
 
   abbrev pub swap_access : TaggedId → ℕ → Option V → Option (Line × Access V)
   swap_access own location None = None
@@ -49,20 +45,20 @@ module _ {V : Type 0} (code : V → ℕ) where
     -- `location` is the first operand's
     abbrev pub phase_access : ℕ → Phase V → Option (Line × Access V)
     phase_access location Idle = None
-    phase_access location (Reading read) = Some (read_access_lem location read)
+    phase_access location (Reading read) = Some (read_access location read)
     phase_access location Attempt = Some (L13, Load (Val location))
-    phase_access location (Linking read) = Some (read_access_lem location read)
+    phase_access location (Linking read) = Some (read_access location read)
     phase_access location (Save kept) = Some (L7, Store (Saved own.process) kept)
     phase_access location (Mark kept) = Some (L8, Cas (Val location) kept (Id own))
     phase_access location (Note kept) = Some (L9, Store (Tid location) (Id own))
     phase_access location (FirstId operand) = with_place (operand_at operands operand) (λ a. Some (S6, Load (Tid a)))
-    phase_access location (FirstCollect operand read) = with_place (operand_at operands operand) (λ a. Some (read_access_lem a read))
-    phase_access location (SecondCollect operand read) = with_place (operand_at operands operand) (λ a. Some (read_access_lem a read))
+    phase_access location (FirstCollect operand read) = with_place (operand_at operands operand) (λ a. Some (read_access a read))
+    phase_access location (SecondCollect operand read) = with_place (operand_at operands operand) (λ a. Some (read_access a read))
     phase_access location (SecondId operand) = with_place (operand_at operands operand) (λ a. Some (S9, Load (Tid a)))
-    phase_access location Swap = swap_access own location (swap_value_lem kind operands new)
+    phase_access location Swap = swap_access own location (swap_value kind operands new)
 
-    abbrev pub line_access_lem : Phase V → Option (Line × Access V)
-    line_access_lem phase = with_place (operand_at operands 0) (λ a. phase_access a phase)
+    abbrev pub line_access : Phase V → Option (Line × Access V)
+    line_access phase = with_place (operand_at operands 0) (λ a. phase_access a phase)
 
-    abbrev pub next_access_lem : Phase V → Option (Line × Access V)
-    next_access_lem phase = cond (suiting kind phase) (line_access_lem phase) None
+    abbrev pub next_access : Phase V → Option (Line × Access V)
+    next_access phase = cond (suiting kind phase) (line_access phase) None

@@ -1,36 +1,33 @@
 -- Looking at operands: one of them, whether a collect was undisturbed, and whether values are as expected.
-use Rattle.std.specs.Prelude.{ℕ, zero, suc, Bool, true, false, ◌&&◌, List, [], ◌∷◌, Some, None, Option, ◌==◌}
+use Rattle.std.specs.Prelude.{ℕ, Bool, false, ◌&&◌, List, Some, None, Option, ◌==◌, slice_get}
+use Rattle.std.specs.List.{list_all}
 use Rattle.memory.specs.declared.cell.TaggedId.{TaggedId}
 use Rattle.phases.specs.declared.records.Operand.{Operand}
 
 -- operand i
 abbrev pub operand_at : {V : Type 0} → List (Operand V) → ℕ → Option (Operand V)
-operand_at [] i = None
-operand_at (o ∷ rest) zero = Some o
-operand_at (o ∷ rest) (suc i) = operand_at rest i
+operand_at operands i = slice_get operands i
 
 abbrev pub same_ids : TaggedId → TaggedId → Bool
 same_ids i j = i.process == j.process && i.tag == j.tag
 
 module _ {V : Type 0} (code : V → ℕ) where
   -- values are the same when their codes are equal
-  abbrev pub same_values_lem : Option V → Option V → Bool
-  same_values_lem (Some x) (Some y) = code x == code y
-  same_values_lem (Some x) None = false
-  same_values_lem None b = false
+  abbrev pub same_values : Option V → Option V → Bool
+  same_values (Some x) (Some y) = code x == code y
+  same_values (Some x) None = false
+  same_values None b = false
 
   -- both ids and both values of an operand are the same
   abbrev pub still : Operand V → Bool
-  still o = same_ids o.first_id o.second_id && same_values_lem o.first o.second
+  still o = same_ids o.first_id o.second_id && same_values o.first o.second
 
-  abbrev pub all_still_lem : List (Operand V) → Bool
-  all_still_lem [] = true
-  all_still_lem (o ∷ rest) = still o && all_still_lem rest
+  abbrev pub all_still : List (Operand V) → Bool
+  all_still operands = list_all still operands
 
   -- the value that was collected first is the expected one
   abbrev pub meets : Operand V → Bool
-  meets o = same_values_lem o.first o.expected
+  meets o = same_values o.first o.expected
 
   abbrev pub all_meet : List (Operand V) → Bool
-  all_meet [] = true
-  all_meet (o ∷ rest) = meets o && all_meet rest
+  all_meet operands = list_all meets operands

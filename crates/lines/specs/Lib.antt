@@ -3,3 +3,4 @@ pub mod Comparing
 pub mod Accesses
 pub mod Advancing
 pub mod Recording
+pub mod Gathering

@@ -1,5 +1,5 @@
 -- What a step leaves in the records of its operation and its process, beside where it leads.
-use Rattle.std.specs.Prelude.{ℕ, zero, suc, Bool, true, false, cond, List, [], ◌∷◌, Some}
+use Rattle.std.specs.Prelude.{ℕ, zero, suc, Bool, true, false, cond, List, [], ◌∷◌, Some, None, Option}
 use Rattle.memory.specs.declared.cell.TaggedId.{TaggedId}
 use Rattle.operation.specs.declared.kind.OperationKind.{OperationKind}
 use Rattle.operation.specs.declared.kind.OperationKind.TheVariants.{Read, Ll, Sc, Snapshot, Kcss}
@@ -12,7 +12,7 @@ use Rattle.phases.specs.declared.turn.Finding.TheVariants as finding
 use Rattle.phases.specs.declared.turn.Effect.{Effect}
 use Rattle.phases.specs.declared.turn.Effect.TheVariants.{Here, AtMark, AtCollect}
 use Rattle.phases.specs.declared.turn.Milestone.{Milestone}
-use Rattle.phases.specs.declared.turn.Milestone.TheVariants.{Plain, Marked, Collected}
+use Rattle.phases.specs.declared.turn.Milestone.TheVariants.{Marked, Collected}
 
 -- The phase in which an operation starts.
 abbrev pub first_phase : {V : Type 0} → OperationKind → Phase V
@@ -95,15 +95,15 @@ abbrev pub raised : {V : Type 0} → Phase V → ℕ → ℕ
 raised phase tag = cond (is_attempt phase) (suc tag) tag
 
 -- The step of the last 8 that said yes, and the step that ended the last first collect, after step t.
-abbrev pub marked_after : Milestone → (t marked : ℕ) → ℕ
-marked_after Plain t m = m
-marked_after Marked t m = t
-marked_after Collected t m = m
+abbrev pub marked_after : Option Milestone → (t marked : ℕ) → ℕ
+marked_after None t m = m
+marked_after (Some Marked) t m = t
+marked_after (Some Collected) t m = m
 
-abbrev pub collected_after : Milestone → (t collected : ℕ) → ℕ
-collected_after Plain t c = c
-collected_after Marked t c = c
-collected_after Collected t c = t
+abbrev pub collected_after : Option Milestone → (t collected : ℕ) → ℕ
+collected_after None t c = c
+collected_after (Some Marked) t c = c
+collected_after (Some Collected) t c = t
 
 -- The effect step of an operation that ends at step t.
 abbrev pub effect_step : Effect → (t marked collected : ℕ) → ℕ

@@ -6,20 +6,20 @@ use Rattle.phases.specs.declared.phase.Phase.{Phase}
 use Rattle.phases.specs.declared.phase.Phase.TheVariants.{Idle, Reading, Attempt, Linking, Save, Mark, Note, FirstId, FirstCollect, SecondCollect, SecondId, Swap}
 
 -- the first operand that the SNAPSHOT of an operation collects
-abbrev pub snapshot_from_lem : OperationKind → ℕ
-snapshot_from_lem Read = 0
-snapshot_from_lem Ll = 0
-snapshot_from_lem Sc = 0
-snapshot_from_lem Snapshot = 0
-snapshot_from_lem Kcss = 1
+abbrev pub snapshot_from : OperationKind → ℕ
+snapshot_from Read = 0
+snapshot_from Ll = 0
+snapshot_from Sc = 0
+snapshot_from Snapshot = 0
+snapshot_from Kcss = 1
 
 -- a SNAPSHOT collects every operand, a KCSS all but the first
-abbrev pub collects_from_lem : OperationKind → ℕ → Bool
-collects_from_lem Read operand = false
-collects_from_lem Ll operand = false
-collects_from_lem Sc operand = false
-collects_from_lem Snapshot operand = true
-collects_from_lem Kcss operand = nat_le 1 operand
+abbrev pub collects_from : OperationKind → ℕ → Bool
+collects_from Read operand = false
+collects_from Ll operand = false
+collects_from Sc operand = false
+collects_from Snapshot operand = true
+collects_from Kcss operand = nat_le 1 operand
 
 abbrev pub reads : OperationKind → Bool
 reads Read = true
@@ -50,8 +50,8 @@ suiting kind (Linking read) = links kind
 suiting kind (Save kept) = links kind
 suiting kind (Mark kept) = links kind
 suiting kind (Note kept) = links kind
-suiting kind (FirstId operand) = collects_from_lem kind operand
-suiting kind (FirstCollect operand read) = collects_from_lem kind operand
-suiting kind (SecondCollect operand read) = collects_from_lem kind operand
-suiting kind (SecondId operand) = collects_from_lem kind operand
+suiting kind (FirstId operand) = collects_from kind operand
+suiting kind (FirstCollect operand read) = collects_from kind operand
+suiting kind (SecondCollect operand read) = collects_from kind operand
+suiting kind (SecondId operand) = collects_from kind operand
 suiting kind Swap = swaps kind

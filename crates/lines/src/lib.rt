@@ -7,10 +7,11 @@ mod access;
 mod compare;
 mod moves;
 mod suits;
+mod task;
 
-pub use access::next_access;
-pub use moves::{advance, finding_of, read_turn};
+pub use moves::{finding_of, read_turn};
 pub use phases::{
     Access, Answer, Effect, Finding, Line, Milestone, Operand, Phase, Place, ReadPhase, ReadTurn,
     Seen, Turn,
 };
+pub use task::Task;

@@ -20,7 +20,7 @@ use Rattle.phases.specs.declared.turn.Finding.TheVariants as finding
 use Rattle.phases.specs.declared.turn.Milestone.TheVariants.{Collected}
 use Rattle.phases.specs.declared.turn.Turn.{Turn}
 use Rattle.phases.specs.declared.turn.Turn.TheVariants as turn
-use Rattle.lines.specs.Accesses.{read_access_lem}
+use Rattle.lines.specs.Accesses.{read_access}
 use Rattle.lines.specs.Advancing.{go_to_operand, undisturbed}
 use Rattle.lines.specs.Advancing as advancing
 use Rattle.lines.specs.Comparing.{operand_at}
@@ -36,15 +36,17 @@ use Rattle.protocol.specs.Phases.Process.{proc}
 use Rattle.protocol.specs.Lines.{Line}
 use Rattle.protocol.specs.Lines.ReadLine.{line_13_value, line_13_id, line_1_value, line_1_id, line_3a, line_3b_yes, line_3b_no}
 use Rattle.protocol.specs.Lines.Line.{s6_on, s6_end, c1_on, c1_got, c1_end, c2_on, c2_got, c2_end}
-use Rattle.lines_lawful.specs.View.{Running, cells_of, Performing, When, at_operand, put_first, put_second, put_first_id}
-use Rattle.lines_lawful.specs.View.Running.{runs}
-use Rattle.lines_lawful.specs.Steps.{Leads, MakesLines}
+use Rattle.lines.specs.Recording.{at_operand, put_first, put_second, put_first_id}
+use Rattle.std.specs.Option.{IfSome}
+use Rattle.line_views.specs.View.{Running, cells_of, Performing}
+use Rattle.line_views.specs.View.Running.{runs}
+use Rattle.line_views.specs.Steps.{Leads, MakesLines}
 use Rattle.lines_lawful.specs.Showing.{read_phase}
 use Rattle.lines_lawful.specs.Collecting.{Fits, ShowsSnapshot}
 use Rattle.lines_lawful.specs.Collecting.ShowsSnapshot.{shows_first_id, shows_first_collect, shows_second_collect, shows_second_id}
 use Rattle.lines_lawful.proofs.Compares.{seen9}
 use Rattle.lines_lawful.proofs.Small.{Seeing, cells_with_val}
-use Rattle.lines_lawful.proofs.Fitting.{has, refit, reach}
+use Rattle.lines_lawful.proofs.Fitting.{at_of, refit, reach}
 
 module _ {V : Type 0} (code : V → ℕ) (one : (x y : V) → code x ≡ code y → x ≡ y) (t p n b : ℕ) (l : maybe.Option ℕ) (w : World V)
     (ops : List (Operand V)) (new : Option V) (rows : Rows V) (k i m c : ℕ) (f : Bool) (h : i < k) (o : Operand V) (at : operand_at ops i ≡ Some o) where
@@ -75,7 +77,7 @@ module _ {V : Type 0} (code : V → ℕ) (one : (x y : V) → code x ≡ code y 
         (z.0, ap w.tid z.0 ∙ e, z.2, z.3, z.4) (λ j _ _ q. q) (λ j _ _ q. q)
 
     turn6 : (q : Bool) → ltb (i + 1) (length ops6) ≡ q
-        → When (go_to_operand (cond q (Some (i + 1)) None) FirstId (advancing.on (FirstCollect 0 Look))) (Going (FirstId i) (first_id solo rows k i) (finding.FirstId i id))
+        → IfSome (go_to_operand (cond q (Some (i + 1)) None) FirstId (advancing.on (FirstCollect 0 Look))) (Going (FirstId i) (first_id solo rows k i) (finding.FirstId i id))
     turn6 true q =
         let g : i + 1 < k = subst (λ (y : ℕ). i + 1 < y) fits6.0 (ltb-true (i + 1) (length ops6) q) in (
           look p,
@@ -113,7 +115,7 @@ module _ {V : Type 0} (code : V → ℕ) (one : (x y : V) → code x ≡ code y 
           (z.0, z.1, z.2, (λ _. refl), (λ q. z.4 (C q))) A B
 
       turn1 : (q : Bool) → ltb (i + 1) (length ops1) ≡ q
-          → When (go_to_operand (cond q (Some (i + 1)) None) (λ j. FirstCollect j Look) (Some (turn.On (SecondCollect 0 Look) Collected))) (Going (FirstCollect i Look) (first_collect solo rows k i looks) (finding.First i v))
+          → IfSome (go_to_operand (cond q (Some (i + 1)) None) (λ j. FirstCollect j Look) (Some (turn.On (SecondCollect 0 Look) (Some Collected)))) (Going (FirstCollect i Look) (first_collect solo rows k i looks) (finding.First i v))
       turn1 true q =
           let F = fits1 (i + 1) 0 (λ j g u x. omega arith) (λ j g u x. omega arith) (λ x. omega arith) in
           let g : i + 1 < k = subst (λ (y : ℕ). i + 1 < y) F.0 (ltb-true (i + 1) (length ops1) q) in (
@@ -150,7 +152,7 @@ module _ {V : Type 0} (code : V → ℕ) (one : (x y : V) → code x ≡ code y 
     fetch1 j (Value v) e = (look p, _, _, c1_on (line_3a j v e), refl, (_, refl, refl, shows_first_collect ops new rows k i (Reset j v) m c false l h fits))
     fetch1 j (Id u) e = tt
 
-    collect1 : (s : ReadPhase V) → Performing w (read_access_lem o.location s).1 (Seeing code t p n b w ShowsSnapshot l (S (FirstCollect i s)) (first_collect solo rows k i (read_phase s)))
+    collect1 : (s : ReadPhase V) → Performing w (read_access o.location s).1 (Seeing code t p n b w ShowsSnapshot l (S (FirstCollect i s)) (first_collect solo rows k i (read_phase s)))
     collect1 Look = look1 (w.val o.location) refl
     collect1 LookAgain = again1 (w.val o.location) refl
     collect1 (Fetch j) = fetch1 j (w.saved j.process) refl
@@ -185,7 +187,7 @@ module _ {V : Type 0} (code : V → ℕ) (one : (x y : V) → code x ≡ code y 
           (z.0, z.1, z.2, (λ q. z.3 (C q)), (λ _. refl)) A B
 
       turn2 : (q : Bool) → ltb (i + 1) (length ops2) ≡ q
-          → When (go_to_operand (cond q (Some (i + 1)) None) (λ j. SecondCollect j Look) (advancing.on (SecondId 0))) (Going (SecondCollect i Look) (second_collect solo rows k c i looks) (finding.Second i v))
+          → IfSome (go_to_operand (cond q (Some (i + 1)) None) (λ j. SecondCollect j Look) (advancing.on (SecondId 0))) (Going (SecondCollect i Look) (second_collect solo rows k c i looks) (finding.Second i v))
       turn2 true q =
           let F = fits2 k (i + 1) (λ j g u x. omega arith) (λ j g u x. omega arith) (λ x. omega arith) in
           let g : i + 1 < k = subst (λ (y : ℕ). i + 1 < y) F.0 (ltb-true (i + 1) (length ops2) q) in (
@@ -222,7 +224,7 @@ module _ {V : Type 0} (code : V → ℕ) (one : (x y : V) → code x ≡ code y 
     fetch2 j (Value v) e = (look p, _, _, c2_on (line_3a j v e), refl, (_, refl, refl, shows_second_collect ops new rows k i (Reset j v) m c false l h fits))
     fetch2 j (Id u) e = tt
 
-    collect2 : (s : ReadPhase V) → Performing w (read_access_lem o.location s).1 (Seeing code t p n b w ShowsSnapshot l (S (SecondCollect i s)) (second_collect solo rows k c i (read_phase s)))
+    collect2 : (s : ReadPhase V) → Performing w (read_access o.location s).1 (Seeing code t p n b w ShowsSnapshot l (S (SecondCollect i s)) (second_collect solo rows k c i (read_phase s)))
     collect2 Look = look2 (w.val o.location) refl
     collect2 LookAgain = again2 (w.val o.location) refl
     collect2 (Fetch j) = fetch2 j (w.saved j.process) refl
@@ -239,9 +241,6 @@ module _ {V : Type 0} (code : V → ℕ) (one : (x y : V) → code x ≡ code y 
     )
 
 module _ {V : Type 0} (code : V → ℕ) (one : (x y : V) → code x ≡ code y → x ≡ y) where
-  at_of : (ops : List (Operand V)) (k i : ℕ) → length ops ≡ k → i < k → (o : Operand V) × (operand_at ops i ≡ Some o)
-  at_of ops k i e h = has ops i (subst (λ (y : ℕ). i < y) (sym e) h)
-
   pub snapshots : MakesLines code ShowsSnapshot
   snapshots t p n b _ w _ _ own (shows_first_id ops new rows k i m c f l h fits) =
       let z = at_of ops k 0 fits.0 (omega arith) in let x = at_of ops k i fits.0 h in
@@ -249,11 +248,11 @@ module _ {V : Type 0} (code : V → ℕ) (one : (x y : V) → code x ≡ code y 
       (seen6 code one t p n b l w ops new rows k i m c f h x.0 x.1 fits (w.tid x.0.location) refl)
   snapshots t p n b _ w _ _ own (shows_first_collect ops new rows k i s m c f l h fits) =
       let z = at_of ops k 0 fits.0 (omega arith) in let x = at_of ops k i fits.0 h in
-      reach ops i z.0 x.0 (λ a. read_access_lem a s) (λ next. Performing w next.1 (Seeing code t p n b w ShowsSnapshot l (runs Snapshot ops new (FirstCollect i s) m c f) (first_collect solo rows k i (read_phase s)))) z.1 x.1
+      reach ops i z.0 x.0 (λ a. read_access a s) (λ next. Performing w next.1 (Seeing code t p n b w ShowsSnapshot l (runs Snapshot ops new (FirstCollect i s) m c f) (first_collect solo rows k i (read_phase s)))) z.1 x.1
       (collect1 code one t p n b l w ops new rows k i m c f h x.0 x.1 fits s)
   snapshots t p n b _ w _ _ own (shows_second_collect ops new rows k i s m c f l h fits) =
       let z = at_of ops k 0 fits.0 (omega arith) in let x = at_of ops k i fits.0 h in
-      reach ops i z.0 x.0 (λ a. read_access_lem a s) (λ next. Performing w next.1 (Seeing code t p n b w ShowsSnapshot l (runs Snapshot ops new (SecondCollect i s) m c f) (second_collect solo rows k c i (read_phase s)))) z.1 x.1
+      reach ops i z.0 x.0 (λ a. read_access a s) (λ next. Performing w next.1 (Seeing code t p n b w ShowsSnapshot l (runs Snapshot ops new (SecondCollect i s) m c f) (second_collect solo rows k c i (read_phase s)))) z.1 x.1
       (collect2 code one t p n b l w ops new rows k i m c f h x.0 x.1 fits s)
   snapshots t p n b _ w _ _ own (shows_second_id ops new rows k i m c f l h fits) =
       let z = at_of ops k 0 fits.0 (omega arith) in let x = at_of ops k i fits.0 h in

@@ -15,7 +15,7 @@ use Rattle.phases.specs.declared.turn.Finding.TheVariants as finding
 use Rattle.phases.specs.declared.turn.Turn.{Turn}
 use Rattle.lines.specs.Advancing.{go_to_operand, undisturbed}
 use Rattle.lines.specs.Advancing as advancing
-use Rattle.lines.specs.Comparing.{operand_at, all_still_lem}
+use Rattle.lines.specs.Comparing.{operand_at, all_still}
 use Rattle.protocol.specs.World.{World, changed}
 use Rattle.protocol.specs.Events.{Event, after}
 use Rattle.protocol.specs.Events.Event.{look}
@@ -29,16 +29,20 @@ use Rattle.protocol.specs.Phases.Phase.{resting, first_id, first_collect, second
 use Rattle.protocol.specs.Phases.Process.{proc}
 use Rattle.protocol.specs.Lines.{Line}
 use Rattle.protocol.specs.Lines.Line.{s9_on, s9_again, s9_solo}
-use Rattle.lines_lawful.specs.View.{Running, cells_of, When, and_then, at_operand, put_second_id}
-use Rattle.lines_lawful.specs.View.Running.{runs}
-use Rattle.lines_lawful.specs.Steps.{Leads}
+use Rattle.lines.specs.Recording.{at_operand, put_second_id}
+use Rattle.std.specs.Option.{option_map}
+use Rattle.lines.proofs.Operands.{kept_locations}
+use Rattle.std.specs.Option.{IfSome}
+use Rattle.line_views.specs.View.{Running, cells_of}
+use Rattle.line_views.specs.View.Running.{runs}
+use Rattle.line_views.specs.Steps.{Leads}
 use Rattle.lines_lawful.specs.Collecting.{Fits, ShowsSnapshot}
 use Rattle.lines_lawful.specs.Collecting.ShowsSnapshot.{shows_first_id, shows_second_id}
 use Rattle.lines_lawful.proofs.Small.{Seeing}
-use Rattle.lines_lawful.proofs.Fitting.{refit, same_rows, moved_rows, fit_places, fit_firsts, kept_places, asked_places, kept_link}
+use Rattle.lines_lawful.proofs.Fitting.{refit, same_rows, moved_rows, fit_places, fit_firsts, asked_places, kept_link}
 
 abbrev then_values : {V : Type 0} → Option (List V) → Option (Answer V)
-then_values x = and_then x (λ list. Some (values list))
+then_values x = option_map (λ list. values list) x
 
 -- what was collected counts no more
 pub loosely : {V : Type 0} (rows : Rows V) (ops : List (Operand V)) (k : ℕ) → Fits k k rows ops k → Fits 0 0 rows ops k
@@ -72,8 +76,8 @@ module _ {V : Type 0} (code : V → ℕ) (one : (x y : V) → code x ≡ code y 
         refit k k k k rows ops k i (put_second_id id) o (with_id_second (rows i) (w.tid (rows i).location)) fits at
         (z.0, z.1, ap w.tid z.0 ∙ e, z.3, z.4) (λ j _ _ q. q) (λ j _ _ q. q)
 
-    compare9 : k ≤ i + 1 → (q : Bool) → all_still_lem code ops9 ≡ q
-        → When (cond q (undisturbed Snapshot) (advancing.on (FirstId 0))) (Going (SecondId i) (second_id solo rows k c i) (finding.SecondId i id))
+    compare9 : k ≤ i + 1 → (q : Bool) → all_still code ops9 ≡ q
+        → IfSome (cond q (undisturbed Snapshot) (advancing.on (FirstId 0))) (Going (SecondId i) (second_id solo rows k c i) (finding.SecondId i id))
     compare9 g true q =
         let some-ops : 0 < length ops = subst (λ (y : ℕ). 0 < y) (sym fits.0) (omega arith) in (
           look p,
@@ -85,7 +89,7 @@ module _ {V : Type 0} (code : V → ℕ) (one : (x y : V) → code x ≡ code y 
             _,
             _,
             ap (λ (x : maybe.Option ℕ). proc n x b resting) (kept_link ops l),
-            asked_places ops new _ some-ops (fit_places rows9 k k k ops9 fits9 ∙ kept_places i id ops),
+            asked_places ops new _ some-ops (fit_places rows9 k k k ops9 fits9 ∙ sym (kept_locations id i ops)),
             ap (λ (x : Option (List V)). then_values x) (fit_firsts rows9 k k ops9 fits9),
             refl,
           ),
@@ -100,7 +104,7 @@ module _ {V : Type 0} (code : V → ℕ) (one : (x y : V) → code x ≡ code y 
     )
 
     turn9 : (q : Bool) → ltb (i + 1) (length ops9) ≡ q
-        → When (go_to_operand (cond q (Some (i + 1)) None) SecondId (cond (all_still_lem code ops9) (undisturbed Snapshot) (advancing.on (FirstId 0))))
+        → IfSome (go_to_operand (cond q (Some (i + 1)) None) SecondId (cond (all_still code ops9) (undisturbed Snapshot) (advancing.on (FirstId 0))))
         (Going (SecondId i) (second_id solo rows k c i) (finding.SecondId i id))
     turn9 true q =
         let g : i + 1 < k = subst (λ (y : ℕ). i + 1 < y) fits9.0 (ltb-true (i + 1) (length ops9) q) in (
@@ -111,7 +115,7 @@ module _ {V : Type 0} (code : V → ℕ) (one : (x y : V) → code x ≡ code y 
           refl,
           (second_id solo rows9 k c (i + 1), ap (λ (x : ℕ). proc n l b (second_id solo rows9 k c x)) next_is, refl, shows_second_id ops9 new rows9 k (i + 1) m c false l g fits9),
         )
-    turn9 false q = compare9 (subst (λ (y : ℕ). y ≤ i + 1) fits9.0 (ltb-false (i + 1) (length ops9) q)) (all_still_lem code ops9) refl
+    turn9 false q = compare9 (subst (λ (y : ℕ). y ≤ i + 1) fits9.0 (ltb-false (i + 1) (length ops9) q)) (all_still code ops9) refl
 
   pub seen9 : Fits k k rows ops k → (x : Cell V) → w.tid o.location ≡ x
       → Seeing code t p n b w ShowsSnapshot l (S (SecondId i)) (second_id solo rows k c i) (Found x) (cells_of w)

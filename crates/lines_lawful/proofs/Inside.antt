@@ -20,10 +20,10 @@ use Rattle.phases.specs.declared.turn.Finding.TheVariants as finding
 use Rattle.phases.specs.declared.turn.Milestone.TheVariants.{Collected}
 use Rattle.phases.specs.declared.turn.Turn.{Turn}
 use Rattle.phases.specs.declared.turn.Turn.TheVariants as turn
-use Rattle.lines.specs.Accesses.{read_access_lem, with_place}
+use Rattle.lines.specs.Accesses.{read_access, with_place}
 use Rattle.lines.specs.Advancing.{go_to_operand, undisturbed}
 use Rattle.lines.specs.Advancing as advancing
-use Rattle.lines.specs.Comparing.{operand_at, all_still_lem}
+use Rattle.lines.specs.Comparing.{operand_at, all_still}
 use Rattle.protocol.specs.World.{World, changed}
 use Rattle.protocol.specs.Events.{Event, after}
 use Rattle.protocol.specs.Events.Event.{look, reset}
@@ -36,9 +36,11 @@ use Rattle.protocol.specs.Phases.Process.{proc}
 use Rattle.protocol.specs.Lines.{Line}
 use Rattle.protocol.specs.Lines.ReadLine.{line_13_value, line_13_id, line_1_value, line_1_id, line_3a, line_3b_yes, line_3b_no}
 use Rattle.protocol.specs.Lines.Line.{s6_on, s6_end, c1_on, c1_got, c1_end, c2_on, c2_got, c2_end, s9_on, s9_again, s9_inside}
-use Rattle.lines_lawful.specs.View.{Running, cells_of, Performing, Gives, When, at_operand, put_first, put_second, put_first_id, put_second_id}
-use Rattle.lines_lawful.specs.View.Running.{runs}
-use Rattle.lines_lawful.specs.Steps.{Leads, Steps}
+use Rattle.lines.specs.Recording.{at_operand, put_first, put_second, put_first_id, put_second_id}
+use Rattle.std.specs.Option.{IsSomeAnd, IfSome}
+use Rattle.line_views.specs.View.{Running, cells_of, Performing}
+use Rattle.line_views.specs.View.Running.{runs}
+use Rattle.line_views.specs.Steps.{Leads, Steps}
 use Rattle.lines_lawful.specs.Showing.{read_phase}
 use Rattle.lines_lawful.specs.Collecting.{Fits}
 use Rattle.lines_lawful.specs.Single.{single}
@@ -46,7 +48,7 @@ use Rattle.lines_lawful.specs.Several.{Wanted, ShowsKcss}
 use Rattle.lines_lawful.specs.Several.ShowsKcss.{kcss_first_id, kcss_first_collect, kcss_second_collect, kcss_second_id, kcss_swap}
 use Rattle.lines_lawful.proofs.Compares.{loosely}
 use Rattle.lines_lawful.proofs.Small.{Seeing, cells_with_val}
-use Rattle.lines_lawful.proofs.Fitting.{has, refit, reach, same_rows, moved_rows}
+use Rattle.lines_lawful.proofs.Fitting.{at_of, refit, reach, same_rows, moved_rows}
 use Rattle.lines_lawful.proofs.Wanting.{rewant}
 
 module _ {V : Type 0} (code : V → ℕ) (one : (x y : V) → code x ≡ code y → x ≡ y) (t p n b : ℕ) (w : World V)
@@ -96,7 +98,7 @@ module _ {V : Type 0} (code : V → ℕ) (one : (x y : V) → code x ≡ code y 
         (z.0, ap w.tid z.0 ∙ e, z.2, z.3, z.4) (λ j _ _ q. q) (λ j _ _ q. q)
 
     turn6 : (q : Bool) → ltb (suc i + 1) (suc (length ops6)) ≡ q
-        → When (go_to_operand (cond q (Some (suc i + 1)) None) FirstId (advancing.on (FirstCollect 1 Look))) (Going (FirstId (suc i)) (first_id P rows k i) (finding.FirstId (suc i) id))
+        → IfSome (go_to_operand (cond q (Some (suc i + 1)) None) FirstId (advancing.on (FirstCollect 1 Look))) (Going (FirstId (suc i)) (first_id P rows k i) (finding.FirstId (suc i) id))
     turn6 true q =
         let g0 : suc i + 1 < suc k = subst (λ (y : ℕ). suc i + 1 < suc y) fits6.0 (ltb-true (suc i + 1) (suc (length ops6)) q) in let g : i + 1 < k = omega arith in (
           look p,
@@ -137,7 +139,7 @@ module _ {V : Type 0} (code : V → ℕ) (one : (x y : V) → code x ≡ code y 
           (z.0, z.1, z.2, (λ _. refl), (λ q. z.4 (C q))) A B
 
       turn1 : (q : Bool) → ltb (suc i + 1) (suc (length ops1)) ≡ q
-          → When (go_to_operand (cond q (Some (suc i + 1)) None) (λ j. FirstCollect j Look) (Some (turn.On (SecondCollect 1 Look) Collected))) (Going (FirstCollect (suc i) Look) (first_collect P rows k i looks) (finding.First (suc i) v))
+          → IfSome (go_to_operand (cond q (Some (suc i + 1)) None) (λ j. FirstCollect j Look) (Some (turn.On (SecondCollect 1 Look) (Some Collected)))) (Going (FirstCollect (suc i) Look) (first_collect P rows k i looks) (finding.First (suc i) v))
       turn1 true q =
           let F = fits1 (i + 1) 0 (λ j g u x. omega arith) (λ j g u x. omega arith) (λ x. omega arith) in
           let g0 : suc i + 1 < suc k = subst (λ (y : ℕ). suc i + 1 < suc y) F.0 (ltb-true (suc i + 1) (suc (length ops1)) q) in let g : i + 1 < k = omega arith in (
@@ -174,7 +176,7 @@ module _ {V : Type 0} (code : V → ℕ) (one : (x y : V) → code x ≡ code y 
     fetch1 j (Value v) e = (look p, _, _, c1_on (line_3a j v e), refl, (_, refl, refl, kcss_first_collect ops a₀ x₀ u₀ v₀ two i₀ j₀ rows k i (Reset j v) m c false h fits want))
     fetch1 j (Id u) e = tt
 
-    collect1 : (s : ReadPhase V) → Performing w (read_access_lem o.location s).1 (Seeing code t p n b w ShowsKcss none' (S (FirstCollect (suc i) s)) (first_collect P rows k i (read_phase s)))
+    collect1 : (s : ReadPhase V) → Performing w (read_access o.location s).1 (Seeing code t p n b w ShowsKcss none' (S (FirstCollect (suc i) s)) (first_collect P rows k i (read_phase s)))
     collect1 Look = look1 (w.val o.location) refl
     collect1 LookAgain = again1 (w.val o.location) refl
     collect1 (Fetch j) = fetch1 j (w.saved j.process) refl
@@ -212,7 +214,7 @@ module _ {V : Type 0} (code : V → ℕ) (one : (x y : V) → code x ≡ code y 
           (z.0, z.1, z.2, (λ q. z.3 (C q)), (λ _. refl)) A B
 
       turn2 : (q : Bool) → ltb (suc i + 1) (suc (length ops2)) ≡ q
-          → When (go_to_operand (cond q (Some (suc i + 1)) None) (λ j. SecondCollect j Look) (advancing.on (SecondId 1))) (Going (SecondCollect (suc i) Look) (second_collect P rows k c i looks) (finding.Second (suc i) v))
+          → IfSome (go_to_operand (cond q (Some (suc i + 1)) None) (λ j. SecondCollect j Look) (advancing.on (SecondId 1))) (Going (SecondCollect (suc i) Look) (second_collect P rows k c i looks) (finding.Second (suc i) v))
       turn2 true q =
           let F = fits2 k (i + 1) (λ j g u x. omega arith) (λ j g u x. omega arith) (λ x. omega arith) in
           let g0 : suc i + 1 < suc k = subst (λ (y : ℕ). suc i + 1 < suc y) F.0 (ltb-true (suc i + 1) (suc (length ops2)) q) in let g : i + 1 < k = omega arith in (
@@ -249,7 +251,7 @@ module _ {V : Type 0} (code : V → ℕ) (one : (x y : V) → code x ≡ code y 
     fetch2 j (Value v) e = (look p, _, _, c2_on (line_3a j v e), refl, (_, refl, refl, kcss_second_collect ops a₀ x₀ u₀ v₀ two i₀ j₀ rows k i (Reset j v) m c false h fits want))
     fetch2 j (Id u) e = tt
 
-    collect2 : (s : ReadPhase V) → Performing w (read_access_lem o.location s).1 (Seeing code t p n b w ShowsKcss none' (S (SecondCollect (suc i) s)) (second_collect P rows k c i (read_phase s)))
+    collect2 : (s : ReadPhase V) → Performing w (read_access o.location s).1 (Seeing code t p n b w ShowsKcss none' (S (SecondCollect (suc i) s)) (second_collect P rows k c i (read_phase s)))
     collect2 Look = look2 (w.val o.location) refl
     collect2 LookAgain = again2 (w.val o.location) refl
     collect2 (Fetch j) = fetch2 j (w.saved j.process) refl
@@ -282,8 +284,8 @@ module _ {V : Type 0} (code : V → ℕ) (one : (x y : V) → code x ≡ code y 
         refit k k k k rows ops k i (put_second_id id) o (with_id_second (rows i) (w.tid (rows i).location)) fits at
         (z.0, z.1, ap w.tid z.0 ∙ e, z.3, z.4) (λ j _ _ q. q) (λ j _ _ q. q)
 
-    compare9 : k ≤ i + 1 → (q : Bool) → all_still_lem code ops9 ≡ q
-        → When (cond q (undisturbed Kcss) (advancing.on (FirstId 1))) (Going (SecondId (suc i)) (second_id P rows k c i) (finding.SecondId (suc i) id))
+    compare9 : k ≤ i + 1 → (q : Bool) → all_still code ops9 ≡ q
+        → IfSome (cond q (undisturbed Kcss) (advancing.on (FirstId 1))) (Going (SecondId (suc i)) (second_id P rows k c i) (finding.SecondId (suc i) id))
     compare9 g true q = (
       look p,
       _,
@@ -302,7 +304,7 @@ module _ {V : Type 0} (code : V → ℕ) (one : (x y : V) → code x ≡ code y 
     )
 
     turn9 : (q : Bool) → ltb (suc i + 1) (suc (length ops9)) ≡ q
-        → When (go_to_operand (cond q (Some (suc i + 1)) None) SecondId (cond (all_still_lem code ops9) (undisturbed Kcss) (advancing.on (FirstId 1))))
+        → IfSome (go_to_operand (cond q (Some (suc i + 1)) None) SecondId (cond (all_still code ops9) (undisturbed Kcss) (advancing.on (FirstId 1))))
         (Going (SecondId (suc i)) (second_id P rows k c i) (finding.SecondId (suc i) id))
     turn9 true q =
         let g0 : suc i + 1 < suc k = subst (λ (y : ℕ). suc i + 1 < suc y) fits9.0 (ltb-true (suc i + 1) (suc (length ops9)) q) in let g : i + 1 < k = omega arith in (
@@ -315,7 +317,7 @@ module _ {V : Type 0} (code : V → ℕ) (one : (x y : V) → code x ≡ code y 
         )
     turn9 false q =
         let g0 : suc k ≤ suc i + 1 = subst (λ (y : ℕ). suc y ≤ suc i + 1) fits9.0 (ltb-false (suc i + 1) (suc (length ops9)) q) in
-        compare9 (omega arith) (all_still_lem code ops9) refl
+        compare9 (omega arith) (all_still code ops9) refl
 
   pub seen9 : Fits k k rows ops k → (x : Cell V) → w.tid o.location ≡ x
       → Seeing code t p n b w ShowsKcss none' (S (SecondId (suc i))) (second_id P rows k c i) (Found x) (cells_of w)
@@ -324,15 +326,12 @@ module _ {V : Type 0} (code : V → ℕ) (one : (x y : V) → code x ≡ code y 
 
 -- the access at an operand after the first
 reach_other : {V A : Type 0} (h : Operand V) (ops : List (Operand V)) (i : ℕ) (o : Operand V) (g : ℕ → A) (Q : A → Type 0) → operand_at ops i ≡ Some o → Q (g o.location)
-    → Gives (cond (leb 1 (suc i)) (with_place (operand_at (h ∷ ops) 0) (λ a. with_place (operand_at (h ∷ ops) (suc i)) (λ a. Some (g a)))) None) Q
+    → IsSomeAnd (cond (leb 1 (suc i)) (with_place (operand_at (h ∷ ops) 0) (λ a. with_place (operand_at (h ∷ ops) (suc i)) (λ a. Some (g a)))) None) Q
 reach_other {A = A} h ops i o g Q e q =
-    subst (λ (y : Bool). Gives (cond y (with_place (operand_at (h ∷ ops) 0) (λ a. with_place (operand_at (h ∷ ops) (suc i)) (λ a. Some (g a)))) None) Q)
+    subst (λ (y : Bool). IsSomeAnd (cond y (with_place (operand_at (h ∷ ops) 0) (λ a. with_place (operand_at (h ∷ ops) (suc i)) (λ a. Some (g a)))) None) Q)
     (sym (le-leb 1 (suc i) (omega arith))) (reach (h ∷ ops) (suc i) h o g Q refl e q)
 
 module _ {V : Type 0} (code : V → ℕ) (one : (x y : V) → code x ≡ code y → x ≡ y) where
-  at_of : (ops : List (Operand V)) (k i : ℕ) → length ops ≡ k → i < k → (o : Operand V) × (operand_at ops i ≡ Some o)
-  at_of ops k i e h = has ops i (subst (λ (y : ℕ). i < y) (sym e) h)
-
   module _ (t p n b : ℕ) (w : World V) (ops : List (Operand V)) (a₀ : ℕ) (x₀ u₀ v₀ : V) (two : Option V) (i₀ j₀ : TaggedId) (rows : Rows V) (k i m c : ℕ) (f : Bool) (h : i < k) (want : Wanted rows ops) where
     abbrev T : code-phase.Phase V → Running V
     T phase = runs Kcss (single a₀ x₀ (Some v₀) two i₀ j₀ ∷ ops) (Some u₀) phase m c f
@@ -340,27 +339,27 @@ module _ {V : Type 0} (code : V → ℕ) (one : (x y : V) → code x ≡ code y 
     abbrev H : Operand V
     H = single a₀ x₀ (Some v₀) two i₀ j₀
 
-    pub first_ids : Fits 0 0 rows ops k → Steps ShowsKcss t p n b maybe.none code w (T (FirstId (suc i))) (first_id (inside a₀ x₀ u₀ v₀ m) rows k i)
+    pub first_ids : Fits 0 0 rows ops k → Steps ShowsKcss t p n b maybe.none code (Unit {0}) w (T (FirstId (suc i))) (first_id (inside a₀ x₀ u₀ v₀ m) rows k i)
     first_ids fits =
         let x = at_of ops k i fits.0 h in
         reach_other H ops i x.0 (λ a. (S6, Load (Tid a))) (λ next. Performing w next.1 (Seeing code t p n b w ShowsKcss maybe.none (T (FirstId (suc i))) (first_id (inside a₀ x₀ u₀ v₀ m) rows k i))) x.1
         (seen6 code one t p n b w ops a₀ x₀ u₀ v₀ two i₀ j₀ rows k i m c f h x.0 x.1 want fits (w.tid x.0.location) refl)
 
     pub first_collects : (s : ReadPhase V) → Fits i 0 rows ops k
-        → Steps ShowsKcss t p n b maybe.none code w (T (FirstCollect (suc i) s)) (first_collect (inside a₀ x₀ u₀ v₀ m) rows k i (read_phase s))
+        → Steps ShowsKcss t p n b maybe.none code (Unit {0}) w (T (FirstCollect (suc i) s)) (first_collect (inside a₀ x₀ u₀ v₀ m) rows k i (read_phase s))
     first_collects s fits =
         let x = at_of ops k i fits.0 h in
-        reach_other H ops i x.0 (λ a. read_access_lem a s) (λ next. Performing w next.1 (Seeing code t p n b w ShowsKcss maybe.none (T (FirstCollect (suc i) s)) (first_collect (inside a₀ x₀ u₀ v₀ m) rows k i (read_phase s)))) x.1
+        reach_other H ops i x.0 (λ a. read_access a s) (λ next. Performing w next.1 (Seeing code t p n b w ShowsKcss maybe.none (T (FirstCollect (suc i) s)) (first_collect (inside a₀ x₀ u₀ v₀ m) rows k i (read_phase s)))) x.1
         (collect1 code one t p n b w ops a₀ x₀ u₀ v₀ two i₀ j₀ rows k i m c f h x.0 x.1 want fits s)
 
     pub second_collects : (s : ReadPhase V) → Fits k i rows ops k
-        → Steps ShowsKcss t p n b maybe.none code w (T (SecondCollect (suc i) s)) (second_collect (inside a₀ x₀ u₀ v₀ m) rows k c i (read_phase s))
+        → Steps ShowsKcss t p n b maybe.none code (Unit {0}) w (T (SecondCollect (suc i) s)) (second_collect (inside a₀ x₀ u₀ v₀ m) rows k c i (read_phase s))
     second_collects s fits =
         let x = at_of ops k i fits.0 h in
-        reach_other H ops i x.0 (λ a. read_access_lem a s) (λ next. Performing w next.1 (Seeing code t p n b w ShowsKcss maybe.none (T (SecondCollect (suc i) s)) (second_collect (inside a₀ x₀ u₀ v₀ m) rows k c i (read_phase s)))) x.1
+        reach_other H ops i x.0 (λ a. read_access a s) (λ next. Performing w next.1 (Seeing code t p n b w ShowsKcss maybe.none (T (SecondCollect (suc i) s)) (second_collect (inside a₀ x₀ u₀ v₀ m) rows k c i (read_phase s)))) x.1
         (collect2 code one t p n b w ops a₀ x₀ u₀ v₀ two i₀ j₀ rows k i m c f h x.0 x.1 want fits s)
 
-    pub second_ids : Fits k k rows ops k → Steps ShowsKcss t p n b maybe.none code w (T (SecondId (suc i))) (second_id (inside a₀ x₀ u₀ v₀ m) rows k c i)
+    pub second_ids : Fits k k rows ops k → Steps ShowsKcss t p n b maybe.none code (Unit {0}) w (T (SecondId (suc i))) (second_id (inside a₀ x₀ u₀ v₀ m) rows k c i)
     second_ids fits =
         let x = at_of ops k i fits.0 h in
         reach_other H ops i x.0 (λ a. (S9, Load (Tid a))) (λ next. Performing w next.1 (Seeing code t p n b w ShowsKcss maybe.none (T (SecondId (suc i))) (second_id (inside a₀ x₀ u₀ v₀ m) rows k c i))) x.1

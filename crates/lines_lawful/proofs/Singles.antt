@@ -8,7 +8,7 @@ use Rattle.phases.specs.declared.phase.ReadPhase.{ReadPhase}
 use Rattle.phases.specs.declared.phase.ReadPhase.TheVariants.{Look, LookAgain, Fetch, Reset}
 use Rattle.phases.specs.declared.phase.Phase.TheVariants.{Attempt, Linking, Save, Mark, Note, Swap}
 use Rattle.phases.specs.declared.records.Seen.TheVariants.{Found}
-use Rattle.lines.specs.Advancing.{finding_of_lem, turn_of}
+use Rattle.lines.specs.Advancing.{finding_of, turn_of}
 use Rattle.protocol.specs.World.{World, changed, id_cell}
 use Rattle.protocol.specs.Events.{Event, after}
 use Rattle.protocol.specs.Events.Event.{look, begin, save, mark, note, commit, fail, reset}
@@ -16,7 +16,7 @@ use Rattle.protocol.specs.Phases as relation
 use Rattle.protocol.specs.Phases.Process.{proc}
 use Rattle.protocol.specs.Lines.{Line}
 use Rattle.protocol.specs.Lines.ReadLine.{line_13_value, line_13_id, line_1_value, line_1_id, line_3a, line_3b_yes, line_3b_no}
-use Rattle.lines_lawful.specs.Steps.{Leads, Steps, MakesLines}
+use Rattle.line_views.specs.Steps.{Leads, Steps, MakesLines}
 use Rattle.std.proofs.lemmas.Bool.{eqb-true, eqb-false}
 use Rattle.operation.specs.declared.kind.OperationKind.TheVariants.{Kcss}
 use Rattle.phases.specs.declared.records.Place.TheVariants.{Val}
@@ -31,8 +31,9 @@ use Rattle.protocol.specs.Phases.Job.{for_kcss}
 use Rattle.protocol.specs.Phases.Phase.{attempt, attempt_again, linking, to_save, to_mark, to_note, swap}
 use Rattle.protocol.specs.Lines.Line.{attempt_value, attempt_id, again_value, again_id, link_on, link_got, line_7, line_8_yes, line_8_no, line_9_one}
 use Rattle.protocol.specs.Lines.Line.{kcss_one, kcss_retry, kcss_first, kcss_first_gone}
-use Rattle.lines_lawful.specs.View.{Running, Cells, cells_of, put, Performing, Gives, When}
-use Rattle.lines_lawful.specs.View.Running.{runs}
+use Rattle.std.specs.Option.{IsSomeAnd, IfSome}
+use Rattle.line_views.specs.View.{Running, Cells, cells_of, put, Performing}
+use Rattle.line_views.specs.View.Running.{runs}
 use Rattle.lines_lawful.specs.Showing.{read_phase}
 use Rattle.lines_lawful.specs.Single.{single, ShowsSingle}
 use Rattle.lines_lawful.specs.Single.ShowsSingle.{single_attempt, single_again, single_linking, single_save, single_mark, single_note, single_swap}
@@ -69,7 +70,7 @@ module _ {V : Type 0} (code : V → ℕ) (t p n b : ℕ) (w : World V) (own : w.
     linking_fetch k (Value v) e = (look p, _, _, link_on (line_3a k v e), refl, (_, refl, refl, single_linking a x₀ u one two i₀ j₀ rows (Reset k v) m c false))
     linking_fetch k (Id j) e = tt
 
-    linking_steps : (s : ReadPhase V) → Steps ShowsSingle t p n b none' code w (runs Kcss (single a x₀ one two i₀ j₀ ∷ []) (Some u) (Linking s) m c f) (linking J (read_phase s))
+    linking_steps : (s : ReadPhase V) → Steps ShowsSingle t p n b none' code (Unit {0}) w (runs Kcss (single a x₀ one two i₀ j₀ ∷ []) (Some u) (Linking s) m c f) (linking J (read_phase s))
     linking_steps Look = linking_look (w.val a) refl
     linking_steps LookAgain = linking_again (w.val a) refl
     linking_steps (Fetch k) = linking_fetch k (w.saved k.process) refl
@@ -78,10 +79,10 @@ module _ {V : Type 0} (code : V → ℕ) (t p n b : ℕ) (w : World V) (own : w.
       (λ h. (look p, _, _, link_on (line_3b_no k v h), refl, (_, refl, refl, single_linking a x₀ u one two i₀ j₀ rows Look m c false))),
     )
 
-    save_steps : (v : V) → Steps ShowsSingle t p n b none' code w (runs Kcss (single a x₀ one two i₀ j₀ ∷ []) (Some u) (Save (Value v)) m c f) (to_save J v)
+    save_steps : (v : V) → Steps ShowsSingle t p n b none' code (Unit {0}) w (runs Kcss (single a x₀ one two i₀ j₀ ∷ []) (Some u) (Save (Value v)) m c f) (to_save J v)
     save_steps v = (save p v, _, _, line_7, refl, (_, refl, refl, single_mark a x₀ u one two i₀ j₀ rows v m c false))
 
-    mark_steps : (v : V) → Steps ShowsSingle t p n b none' code w (runs Kcss (single a x₀ one two i₀ j₀ ∷ []) (Some u) (Mark (Value v)) m c f) (to_mark J v)
+    mark_steps : (v : V) → Steps ShowsSingle t p n b none' code (Unit {0}) w (runs Kcss (single a x₀ one two i₀ j₀ ∷ []) (Some u) (Mark (Value v)) m c f) (to_mark J v)
     mark_steps v = (
       (λ e. (
         mark p a v,
@@ -94,7 +95,7 @@ module _ {V : Type 0} (code : V → ℕ) (t p n b : ℕ) (w : World V) (own : w.
       (λ h. (look p, _, _, line_8_no h, refl, (_, refl, refl, single_again a x₀ u one two i₀ j₀ rows m c))),
     )
 
-    note_steps : (v : V) → Steps ShowsSingle t p n b none' code w (runs Kcss (single a x₀ one two i₀ j₀ ∷ []) (Some u) (Note (Value v)) m c f) (to_note J v m)
+    note_steps : (v : V) → Steps ShowsSingle t p n b none' code (Unit {0}) w (runs Kcss (single a x₀ one two i₀ j₀ ∷ []) (Some u) (Note (Value v)) m c f) (to_note J v m)
     note_steps v = (
       note p a,
       _,
@@ -110,7 +111,7 @@ module _ {V : Type 0} (code : V → ℕ) (t p n b : ℕ) (w : World V) (own : w.
 
       abbrev SaidBy : Bool → Bool → Cells V → Type 0
       SaidBy q s cells =
-          When (cond q (cond (q && true) (cond s (Some (turn.Ends Yes Here)) (advancing.on Attempt)) (Some (turn.Ends No AtCollect))) (Some (turn.Ends No AtMark))) (λ to.
+          IfSome (cond q (cond (q && true) (cond s (Some (turn.Ends Yes Here)) (advancing.on Attempt)) (Some (turn.Ends No AtCollect))) (Some (turn.Ends No AtMark))) (λ to.
           (e : Event V) × (r : relation.Process V) × (d : maybe.Option (relation.Done V)) × Line t p w (proc n none' b (swap a x₀ u v m rows zero zero)) e r d
           × (cells_of (after e w) ≡ cells) × Leads ShowsSingle t p n b none' R finding.Nothing to r d)
 
@@ -127,7 +128,7 @@ module _ {V : Type 0} (code : V → ℕ) (t p n b : ℕ) (w : World V) (own : w.
       )
 
       abbrev Wrote : Bool → Type 0
-      Wrote q = Gives (swap_access code (record { process = p; tag = n }) a (cond (q && true) (Some u) (Some v)))
+      Wrote q = IsSomeAnd (swap_access code (record { process = p; tag = n }) a (cond (q && true) (Some u) (Some v)))
           (λ next. Performing w next.1 (Seeing code t p n b w ShowsSingle none' R (swap a x₀ u v m rows zero zero)))
 
       swap_by : (q : Bool) → eqb (code v) (code x₀) ≡ q → Wrote q
@@ -142,7 +143,7 @@ module _ {V : Type 0} (code : V → ℕ) (t p n b : ℕ) (w : World V) (own : w.
             (λ g. subst (λ (q : Bool). SaidBy q false (cells_of w)) (sym e) (z.1 g)),
           )
 
-      swap_steps : Steps ShowsSingle t p n b none' code w R (swap a x₀ u v m rows zero zero)
+      swap_steps : Steps ShowsSingle t p n b none' code (Unit {0}) w R (swap a x₀ u v m rows zero zero)
       swap_steps = swap_by (eqb (code v) (code x₀)) refl
 
 pub singles : {V : Type 0} (code : V → ℕ) → ((x y : V) → code x ≡ code y → x ≡ y) → MakesLines code ShowsSingle

@@ -11,7 +11,7 @@ use Rattle.phases.specs.declared.records.Operand.{Operand}
 use Rattle.phases.specs.declared.records.Seen.{Seen}
 use Rattle.phases.specs.declared.records.Seen.TheVariants.{Found}
 use Rattle.operation.specs.declared.kind.OperationKind.TheVariants.{Read, Ll, Sc}
-use Rattle.lines.specs.Advancing.{finding_of_lem, turn_of}
+use Rattle.lines.specs.Advancing.{finding_of, turn_of}
 use Rattle.protocol.specs.World.{World, changed, id_cell}
 use Rattle.protocol.specs.Events.{Event, after}
 use Rattle.protocol.specs.Events.Event.{look, begin, save, mark, note, commit, fail, reset}
@@ -22,9 +22,11 @@ use Rattle.protocol.specs.Phases.Process.{proc}
 use Rattle.protocol.specs.Lines.{Line}
 use Rattle.protocol.specs.Lines.ReadLine.{line_13_value, line_13_id, line_1_value, line_1_id, line_3a, line_3b_yes, line_3b_no}
 use Rattle.protocol.specs.Lines.Line.{read_on, read_got, attempt_value, attempt_id, again_value, again_id, link_on, link_got, line_7, line_8_yes, line_8_no, line_9_ll, sc_yes, sc_no}
-use Rattle.lines_lawful.specs.View.{Running, Cells, cells_of, When, recorded}
-use Rattle.lines_lawful.specs.View.Running.{runs}
-use Rattle.lines_lawful.specs.Steps.{Showing, Leads, Steps, MakesLines}
+use Rattle.lines.specs.Recording.{recorded}
+use Rattle.std.specs.Option.{IfSome}
+use Rattle.line_views.specs.View.{Running, Cells, cells_of}
+use Rattle.line_views.specs.View.Running.{runs}
+use Rattle.line_views.specs.Steps.{Showing, Leads, Steps, MakesLines}
 use Rattle.lines_lawful.specs.Showing.{read_phase, ShowsRead, ShowsLl, ShowsSc}
 use Rattle.lines_lawful.specs.Showing.ShowsRead.{shows_reading}
 use Rattle.lines_lawful.specs.Showing.ShowsLl.{shows_attempt, shows_again, shows_linking, shows_save, shows_mark, shows_note}
@@ -40,8 +42,8 @@ module _ {V : Type 0} (code : V → ℕ) (t p n b : ℕ) (w : World V) where
   -- what is to be shown once the access has seen something
   abbrev pub Seeing : Showing V → maybe.Option ℕ → Running V → relation.Phase V → Seen V → Cells V → Type 0
   Seeing Shows l (runs kind operands new phase m c f) ph seen cells =
-      When (finding_of_lem phase seen) (λ found.
-      When (turn_of code kind (recorded found operands) phase seen) (λ to.
+      IfSome (finding_of phase seen) (λ found.
+      IfSome (turn_of code kind (recorded found operands) phase seen) (λ to.
       (e : Event V) × (r : relation.Process V) × (d : maybe.Option (relation.Done V)) × Line t p w (proc n l b ph) e r d
       × (cells_of (after e w) ≡ cells) × Leads Shows t p n b l (runs kind operands new phase m c f) found to r d))
 
@@ -61,7 +63,7 @@ module _ {V : Type 0} (code : V → ℕ) (t p n b : ℕ) (w : World V) where
     reading_fetch k (Value v) e = (look p, _, _, read_on (line_3a k v e), refl, (_, refl, refl, shows_reading o new (Reset k v) m c false l))
     reading_fetch k (Id j) e = tt
 
-    reading_steps : (s : ReadPhase V) → Steps ShowsRead t p n b l code w (runs Read (o ∷ []) new (Reading s) m c f) (reading o.location (read_phase s))
+    reading_steps : (s : ReadPhase V) → Steps ShowsRead t p n b l code (Unit {0}) w (runs Read (o ∷ []) new (Reading s) m c f) (reading o.location (read_phase s))
     reading_steps Look = reading_look (w.val o.location) refl
     reading_steps LookAgain = reading_again (w.val o.location) refl
     reading_steps (Fetch k) = reading_fetch k (w.saved k.process) refl
@@ -104,7 +106,7 @@ module _ {V : Type 0} (code : V → ℕ) (t p n b : ℕ) (w : World V) (own : w.
     linking_fetch k (Value v) e = (look p, _, _, link_on (line_3a k v e), refl, (_, refl, refl, shows_linking o new (Reset k v) m c false))
     linking_fetch k (Id j) e = tt
 
-    linking_steps : (s : ReadPhase V) → Steps ShowsLl t p n b none' code w (runs Ll (o ∷ []) new (Linking s) m c f) (linking J (read_phase s))
+    linking_steps : (s : ReadPhase V) → Steps ShowsLl t p n b none' code (Unit {0}) w (runs Ll (o ∷ []) new (Linking s) m c f) (linking J (read_phase s))
     linking_steps Look = linking_look (w.val o.location) refl
     linking_steps LookAgain = linking_again (w.val o.location) refl
     linking_steps (Fetch k) = linking_fetch k (w.saved k.process) refl
@@ -113,10 +115,10 @@ module _ {V : Type 0} (code : V → ℕ) (t p n b : ℕ) (w : World V) (own : w.
       (λ h. (look p, _, _, link_on (line_3b_no k v h), refl, (_, refl, refl, shows_linking o new Look m c false))),
     )
 
-    save_steps : (v : V) → Steps ShowsLl t p n b none' code w (runs Ll (o ∷ []) new (Save (Value v)) m c f) (to_save J v)
+    save_steps : (v : V) → Steps ShowsLl t p n b none' code (Unit {0}) w (runs Ll (o ∷ []) new (Save (Value v)) m c f) (to_save J v)
     save_steps v = (save p v, _, _, line_7, refl, (_, refl, refl, shows_mark o new v m c false))
 
-    mark_steps : (v : V) → Steps ShowsLl t p n b none' code w (runs Ll (o ∷ []) new (Mark (Value v)) m c f) (to_mark J v)
+    mark_steps : (v : V) → Steps ShowsLl t p n b none' code (Unit {0}) w (runs Ll (o ∷ []) new (Mark (Value v)) m c f) (to_mark J v)
     mark_steps v = (
       (λ e. (
         mark p o.location v,
@@ -129,7 +131,7 @@ module _ {V : Type 0} (code : V → ℕ) (t p n b : ℕ) (w : World V) (own : w.
       (λ h. (look p, _, _, line_8_no h, refl, (_, refl, refl, shows_again o new m c))),
     )
 
-    note_steps : (v : V) → Steps ShowsLl t p n b none' code w (runs Ll (o ∷ []) new (Note (Value v)) m c f) (to_note J v m)
+    note_steps : (v : V) → Steps ShowsLl t p n b none' code (Unit {0}) w (runs Ll (o ∷ []) new (Note (Value v)) m c f) (to_note J v m)
     note_steps v = (
       note p o.location,
       _,
@@ -139,7 +141,7 @@ module _ {V : Type 0} (code : V → ℕ) (t p n b : ℕ) (w : World V) (own : w.
       (_, _, refl, refl, refl, refl),
     )
 
-  sc_steps : (u : V) (f : Bool) → Steps ShowsSc t p n b none' code w (runs Sc (o ∷ []) (Some u) Swap m c f) (swap_sc o.location u)
+  sc_steps : (u : V) (f : Bool) → Steps ShowsSc t p n b none' code (Unit {0}) w (runs Sc (o ∷ []) (Some u) Swap m c f) (swap_sc o.location u)
   sc_steps u f = (
     (λ e. (commit p o.location u, _, _, sc_yes e, refl, (_, _, refl, refl, refl, refl))),
     (λ h. (fail p o.location, _, _, sc_no h, refl, (_, _, refl, refl, refl, refl))),

@@ -16,7 +16,7 @@ use Rattle.protocol.specs.Phases as relation
 use Rattle.protocol.specs.Phases.Process.{proc}
 use Rattle.protocol.specs.Lines.{Line}
 use Rattle.protocol.specs.Lines.ReadLine.{line_13_value, line_13_id, line_1_value, line_1_id, line_3a, line_3b_yes, line_3b_no}
-use Rattle.lines_lawful.specs.Steps.{Leads, Steps, MakesLines}
+use Rattle.line_views.specs.Steps.{Leads, Steps, MakesLines}
 use Rattle.std.proofs.lemmas.Bool.{eqb-true, eqb-false, ltb-false}
 use Rattle.operation.specs.declared.kind.OperationKind.TheVariants.{Kcss}
 use Rattle.phases.specs.declared.records.Place.TheVariants.{Val, Tid}
@@ -34,8 +34,10 @@ use Rattle.protocol.specs.Phases.Job.{for_kcss}
 use Rattle.protocol.specs.Phases.Phase.{attempt, attempt_again, linking, to_save, to_mark, to_note, swap}
 use Rattle.protocol.specs.Lines.Line.{attempt_value, attempt_id, again_value, again_id, link_on, link_got, line_7, line_8_yes, line_8_no, line_9_more}
 use Rattle.protocol.specs.Lines.Line.{kcss_yes, kcss_retry, kcss_first, kcss_first_gone, kcss_other, kcss_other_gone}
-use Rattle.lines_lawful.specs.View.{Running, Cells, cells_of, put, Performing, Gives, When, and_then, request_of}
-use Rattle.lines_lawful.specs.View.Running.{runs}
+use Rattle.std.specs.Option.{option_map}
+use Rattle.std.specs.Option.{IsSomeAnd, IfSome}
+use Rattle.line_views.specs.View.{Running, Cells, cells_of, put, Performing, request_of}
+use Rattle.line_views.specs.View.Running.{runs}
 use Rattle.lines_lawful.specs.Showing.{read_phase}
 use Rattle.lines_lawful.specs.Single.{single}
 use Rattle.lines_lawful.specs.Collecting.{Fits}
@@ -78,7 +80,7 @@ module _ {V : Type 0} (code : V → ℕ) (t p n b : ℕ) (w : World V) (own : w.
     linking_fetch k (Value v) e = (look p, _, _, link_on (line_3a k v e), refl, (_, refl, refl, kcss_linking a x₀ u one two i₀ j₀ ops rows k₀ (Reset k v) m c false some-rows fits want))
     linking_fetch k (Id j) e = tt
 
-    linking_steps : (s : ReadPhase V) → Steps ShowsKcss t p n b none' code w (runs Kcss (single a x₀ one two i₀ j₀ ∷ ops) (Some u) (Linking s) m c f) (linking J (read_phase s))
+    linking_steps : (s : ReadPhase V) → Steps ShowsKcss t p n b none' code (Unit {0}) w (runs Kcss (single a x₀ one two i₀ j₀ ∷ ops) (Some u) (Linking s) m c f) (linking J (read_phase s))
     linking_steps Look = linking_look (w.val a) refl
     linking_steps LookAgain = linking_again (w.val a) refl
     linking_steps (Fetch k) = linking_fetch k (w.saved k.process) refl
@@ -87,10 +89,10 @@ module _ {V : Type 0} (code : V → ℕ) (t p n b : ℕ) (w : World V) (own : w.
       (λ h. (look p, _, _, link_on (line_3b_no k v h), refl, (_, refl, refl, kcss_linking a x₀ u one two i₀ j₀ ops rows k₀ Look m c false some-rows fits want))),
     )
 
-    save_steps : (v : V) → Steps ShowsKcss t p n b none' code w (runs Kcss (single a x₀ one two i₀ j₀ ∷ ops) (Some u) (Save (Value v)) m c f) (to_save J v)
+    save_steps : (v : V) → Steps ShowsKcss t p n b none' code (Unit {0}) w (runs Kcss (single a x₀ one two i₀ j₀ ∷ ops) (Some u) (Save (Value v)) m c f) (to_save J v)
     save_steps v = (save p v, _, _, line_7, refl, (_, refl, refl, kcss_mark a x₀ u one two i₀ j₀ ops rows k₀ v m c false some-rows fits want))
 
-    mark_steps : (v : V) → Steps ShowsKcss t p n b none' code w (runs Kcss (single a x₀ one two i₀ j₀ ∷ ops) (Some u) (Mark (Value v)) m c f) (to_mark J v)
+    mark_steps : (v : V) → Steps ShowsKcss t p n b none' code (Unit {0}) w (runs Kcss (single a x₀ one two i₀ j₀ ∷ ops) (Some u) (Mark (Value v)) m c f) (to_mark J v)
     mark_steps v = (
       (λ e. (
         mark p a v,
@@ -107,7 +109,7 @@ module _ {V : Type 0} (code : V → ℕ) (t p n b : ℕ) (w : World V) (own : w.
   abbrev N : Running V
   N = runs Kcss (single a x₀ one two i₀ j₀ ∷ ops) (Some u) (Note (Value v)) m c f
 
-  note_by : (q : Bool) → ltb 1 (suc (length ops)) ≡ q → When (cond q (advancing.on (FirstId 1)) (advancing.on Swap)) (λ to.
+  note_by : (q : Bool) → ltb 1 (suc (length ops)) ≡ q → IfSome (cond q (advancing.on (FirstId 1)) (advancing.on Swap)) (λ to.
       (e : Event V) × (r : relation.Process V) × (d : maybe.Option (relation.Done V)) × Line t p w (proc n maybe.none b (to_note (for_kcss a x₀ u rows (suc k)) v m)) e r d
       × (cells_of (after e w) ≡ put w (Tid a) (Id (record { process = p; tag = n }))) × Leads ShowsKcss t p n b maybe.none N (finding.First 0 v) to r d)
   note_by true q = (
@@ -121,7 +123,7 @@ module _ {V : Type 0} (code : V → ℕ) (t p n b : ℕ) (w : World V) (own : w.
   note_by false q =
       let g : suc (suc k) ≤ 1 = subst (λ (y : ℕ). suc y ≤ 1) fits.0 (ltb-false 1 (suc (length ops)) q) in absurd (omega arith)
 
-  note_steps : Steps ShowsKcss t p n b maybe.none code w N (to_note (for_kcss a x₀ u rows (suc k)) v m)
+  note_steps : Steps ShowsKcss t p n b maybe.none code (Unit {0}) w N (to_note (for_kcss a x₀ u rows (suc k)) v m)
   note_steps = note_by (ltb 1 (suc (length ops))) refl
 
 module _ {V : Type 0} (code : V → ℕ) (t p n b : ℕ) (w : World V) (one_code : (x y : V) → code x ≡ code y → x ≡ y) (a : ℕ) (x₀ u v : V) (two : Option V) (i₀ j₀ : TaggedId) (ops : List (Operand V)) (rows : Rows V) (k m c : ℕ) (fits : Fits (suc k) (suc k) rows ops (suc k)) (want : Wanted rows ops) (f : Bool) where
@@ -131,7 +133,7 @@ module _ {V : Type 0} (code : V → ℕ) (t p n b : ℕ) (w : World V) (one_code
   -- q: the first value is as expected; o: the others are; z: there are others; s: what the CAS said
   abbrev SaidBy : Bool → Bool → Bool → Bool → Cells V → Type 0
   SaidBy q o z s cells =
-      When (cond q (cond (q && o) (cond s (cond z (Some (turn.Ends Yes AtCollect)) (Some (turn.Ends Yes Here))) (advancing.on Attempt)) (Some (turn.Ends No AtCollect))) (Some (turn.Ends No AtMark))) (λ to.
+      IfSome (cond q (cond (q && o) (cond s (cond z (Some (turn.Ends Yes AtCollect)) (Some (turn.Ends Yes Here))) (advancing.on Attempt)) (Some (turn.Ends No AtCollect))) (Some (turn.Ends No AtMark))) (λ to.
       (e : Event V) × (r : relation.Process V) × (d : maybe.Option (relation.Done V)) × Line t p w (proc n maybe.none b (swap a x₀ u v m rows (suc k) c)) e r d
       × (cells_of (after e w) ≡ cells) × Leads ShowsKcss t p n b maybe.none R finding.Nothing to r d)
 
@@ -139,7 +141,7 @@ module _ {V : Type 0} (code : V → ℕ) (t p n b : ℕ) (w : World V) (one_code
   Both q o y = (w.val a ≡ id_cell p n → SaidBy q o true true (put w (Val a) (Value y))) × ((w.val a ≡ id_cell p n → ⊥) → SaidBy q o true false (cells_of w))
 
   asked : request_of Kcss (single a x₀ (Some v) two i₀ j₀ ∷ ops) (Some u) ≡ Some (kcss_of a x₀ u rows (suc k))
-  asked = ap (λ (y : Option (List (Expected V))). and_then y (λ (more : List (Expected V)). Some (kcss (record { location = a; value = x₀ }) more u))) (fit_wants rows (suc k) (suc k) (suc k) ops fits want)
+  asked = ap (λ (y : Option (List (Expected V))). option_map (λ (more : List (Expected V)). kcss (record { location = a; value = x₀ }) more u) y) (fit_wants rows (suc k) (suc k) (suc k) ops fits want)
 
   met : v ≡ x₀ → all_meet code ops ≡ true → Both true true u
   met y g = (
@@ -180,7 +182,7 @@ module _ {V : Type 0} (code : V → ℕ) (t p n b : ℕ) (w : World V) (one_code
       (subst (λ (y : Bool). SaidBy q o y s cells) (sym (others (ltb 1 (suc (length ops))) refl)) h))
 
   abbrev Wrote : Bool → Bool → Type 0
-  Wrote q o = Gives (swap_access code (record { process = p; tag = n }) a (cond (q && o) (Some u) (Some v)))
+  Wrote q o = IsSomeAnd (swap_access code (record { process = p; tag = n }) a (cond (q && o) (Some u) (Some v)))
       (λ next. Performing w next.1 (Seeing code t p n b w ShowsKcss maybe.none R (swap a x₀ u v m rows (suc k) c)))
 
   swap_by : (q o : Bool) → eqb (code v) (code x₀) ≡ q → all_meet code ops ≡ o → Wrote q o
@@ -194,7 +196,7 @@ module _ {V : Type 0} (code : V → ℕ) (t p n b : ℕ) (w : World V) (one_code
       let z = unmet o (λ y. eqb-false (code v) (code x₀) e (ap code y)) in
       ((λ y. tested false o true (put w (Val a) (Value v)) e g (z.0 y)), (λ y. tested false o false (cells_of w) e g (z.1 y)))
 
-  swap_steps : Steps ShowsKcss t p n b maybe.none code w R (swap a x₀ u v m rows (suc k) c)
+  swap_steps : Steps ShowsKcss t p n b maybe.none code (Unit {0}) w R (swap a x₀ u v m rows (suc k) c)
   swap_steps = swap_by (eqb (code v) (code x₀)) (all_meet code ops) refl refl
 
 pub kcsses : {V : Type 0} (code : V → ℕ) → ((x y : V) → code x ≡ code y → x ≡ y) → MakesLines code ShowsKcss

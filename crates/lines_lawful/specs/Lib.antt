@@ -1,5 +1,3 @@
-pub mod View
-pub mod Steps
 pub mod Showing
 pub mod Collecting
 pub mod Single

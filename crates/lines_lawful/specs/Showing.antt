@@ -11,8 +11,8 @@ use Rattle.protocol.specs.Phases as relation
 use Rattle.protocol.specs.Phases.ReadPhase.{looks, looks_again, fetches, resets}
 use Rattle.protocol.specs.Phases.Job.{for_ll}
 use Rattle.protocol.specs.Phases.Phase.{reading, attempt, attempt_again, linking, to_save, to_mark, to_note, swap_sc}
-use Rattle.lines_lawful.specs.View.{Running}
-use Rattle.lines_lawful.specs.View.Running.{runs}
+use Rattle.line_views.specs.View.{Running}
+use Rattle.line_views.specs.View.Running.{runs}
 
 abbrev pub read_phase : {V : Type 0} → ReadPhase V → relation.ReadPhase V
 read_phase Look = looks

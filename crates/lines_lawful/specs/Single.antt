@@ -11,8 +11,8 @@ use Rattle.protocol.specs.Phases as relation
 use Rattle.protocol.specs.Phases.{Rows}
 use Rattle.protocol.specs.Phases.Job.{for_kcss}
 use Rattle.protocol.specs.Phases.Phase.{attempt, attempt_again, linking, to_save, to_mark, to_note, swap}
-use Rattle.lines_lawful.specs.View.{Running}
-use Rattle.lines_lawful.specs.View.Running.{runs}
+use Rattle.line_views.specs.View.{Running}
+use Rattle.line_views.specs.View.Running.{runs}
 use Rattle.lines_lawful.specs.Showing.{read_phase}
 
 -- its operand: location, expected value, and what the lines found

@@ -4,9 +4,9 @@ use Rattle.memory.specs.declared.cell.Cell.{Cell}
 use Rattle.memory.specs.declared.fault.MemoryFault.{MemoryFault}
 use Rattle.memory.specs.declared.limits.Limits.{Limits}
 use Rattle.memory.specs.Cells.{same}
-use Rattle.memory.specs.Rules.{cell_at, first_cells, fitting, admission, store_answer, store_after, cas_answer, cas_after, table_stored, table_swapped}
-use Rattle.memory.proofs.First.{first_below, first_set}
-use Rattle.memory.proofs.Admitting.{passed, store_yes, cas_told}
+use Rattle.memory.specs.Rules.{cell_at, first_cells, fitting, store_answer, store_after, cas_answer, cas_after, table_stored, table_swapped}
+use Rattle.memory.proofs.First.{first_at, first_set}
+use Rattle.memory.proofs.Admitting.{store_yes, cas_told}
 
 pub at_cond : {X Y : Type 0} (f : X → Y) (b : Bool) (x y : X) → f (cond b x y) ≡ cond b (f x) (f y)
 at_cond f true x y = refl
@@ -23,17 +23,6 @@ pub record Swapped {V : Type 0} (code : V → ℕ) (limits : Limits) (table : Li
   pub answer : r ≡ cas_answer code limits (first_cells table) i old c
   pub after : first_cells t ≡ cas_after code limits (first_cells table) i old c
   pub whole : t ≡ table_swapped r table i c
-
--- what the tests before a change tell once they have been passed
-pub record Passed {V : Type 0} (code : V → ℕ) (limits : Limits) (table : List (Cell V)) (i : ℕ) (c : Cell V) : Type 0 where
-  pub below : i < length table
-  pub inside : i < length (first_cells table)
-  pub fit : fitting code limits c ≡ true
-
-pub passed_table : {V : Type 0} (code : V → ℕ) (limits : Limits) (table : List (Cell V)) (i : ℕ) (c : Cell V) {l : Limits} {n : ℕ} {u : Unit {0}} → Ok u ≡ admission code l n i c → l ≡ limits → n ≡ length (first_cells table) → Passed code limits table i c
-passed_table code limits table i c e q p =
-    let a = passed code (first_cells table) i c q p e in
-    record { below = first_below table i a.0; inside = a.0; fit = a.1 }
 
 -- a change that is inside and fits
 module _ {V : Type 0} (code : V → ℕ) (limits : Limits) (table : List (Cell V)) (i : ℕ) (c : Cell V) (inside : i < length (first_cells table)) (fit : fitting code limits c ≡ true) where
@@ -56,3 +45,7 @@ module _ {V : Type 0} (code : V → ℕ) (limits : Limits) (table : List (Cell V
         after = ap first_cells left ∙ at_cond first_cells told (set table i c) table ∙ ap (λ x. cond told x (first_cells table)) (first_set table i c) ∙ ap (λ b. cond b (set (first_cells table) i c) (first_cells table)) (sym s) ∙ sym all.1;
         whole = left ∙ ap (λ r. table_swapped r table i c) (sym said);
       }
+
+  -- the same, told of the cell that was found there
+  pub swapped_found : (old found : Cell V) {r : Result Bool MemoryFault} {t : List (Cell V)} (told : Bool) → found ≡ cell_at table i → same code found old ≡ told → r ≡ Ok told → t ≡ cond told (set table i c) table → Swapped code limits table i old c r t
+  swapped_found old found told at s said left = swapped old told (ap (λ x. same code x old) (first_at table i inside ∙ sym at) ∙ s) said left

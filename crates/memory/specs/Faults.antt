@@ -1,5 +1,5 @@
 -- The faults of memories and the numbers that name them.
-use Rattle.std.specs.Prelude.{ℕ}
+use Rattle.std.specs.Prelude.{ℕ, ◌++◌, List, codes, decimal}
 use Rattle.memory.specs.declared.fault.MemoryFault.{MemoryFault}
 use Rattle.memory.specs.declared.fault.MemoryRefusal.{MemoryRefusal}
 use Rattle.memory.specs.declared.fault.MemoryRefusal.TheVariants.{NoCell, Unfit}
@@ -20,3 +20,12 @@ no_cell i = record { refusal = NoCell; place = i }
 -- Refusal 2: the cell does not fit. The place is i, and 0 for Fits.
 abbrev pub unfit : ℕ → MemoryFault
 unfit i = record { refusal = Unfit; place = i }
+
+-- A refusal in plain words.
+abbrev pub refusal_words : MemoryRefusal → List ℕ
+refusal_words NoCell = codes "the memory has no such cell"
+refusal_words Unfit = codes "the cell does not fit the memory's limits"
+
+-- The line on a fault: its layer, number and place, and why.
+abbrev pub fault_line : MemoryFault → List ℕ
+fault_line fault = codes "layer " ++ (decimal memory_layer ++ (codes ", number " ++ (decimal (refusal_number fault.refusal) ++ (codes ", place " ++ (decimal fault.place ++ (codes ": " ++ refusal_words fault.refusal))))))

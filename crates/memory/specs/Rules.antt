@@ -25,8 +25,8 @@ fitting code limits (Value value) = nat_le (code value) limits.code
 fitting code limits (Id id) = nat_le id.process limits.process && nat_le id.tag limits.tag
 
 -- The limits of open and packed memory: 32,767, 2^48 - 1 and the kind's greatest code.
-abbrev pub open_limits_lem : ℕ → Limits
-open_limits_lem greatest = record { process = 32767; tag = 281474976710655; code = greatest }
+abbrev pub open_limits : ℕ → Limits
+open_limits greatest = record { process = 32767; tag = 281474976710655; code = greatest }
 
 -- Each limit the smaller of the two.
 abbrev pub smaller_limits : Limits → Limits → Limits

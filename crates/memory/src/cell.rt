@@ -6,27 +6,23 @@ ghost use Rattle.memory.specs.Cells.{same};
 use value::ValueKind;
 
 // A process number and a tag.
-#[derive(Clone, Copy)]
+#[derive(Clone, Copy, Debug, PartialEq, Eq)]
 pub struct TaggedId {
     pub process: u16,
     pub tag: u64,
 }
 
-// A value or a tagged id.
-#[derive(Clone, Copy)]
+// A value or a tagged id. Neither of the two is a failure, so it is no Result, and the rules name both.
+#[derive(Clone, Copy, Debug, PartialEq, Eq)]
 pub enum Cell<V> {
     Value(V),
     Id(TaggedId),
 }
 
-// Whether both cells hold the same value, or ids with equal numbers.
+// Whether both cells hold the same value, or ids with equal numbers: what `==` answers, told of the cells.
 pub fn same_cell<V: ValueKind>(a: &Cell<V>, b: &Cell<V>) -> bool
     ensures test { result ≡ same V.coded a.now b.now }
     ensures decides { Decides result (a.now ≡ b.now) }
 {
-    match (a, b) {
-        (Cell::Value(x), Cell::Value(y)) => x.same(y),
-        (Cell::Id(x), Cell::Id(y)) => x.process == y.process && x.tag == y.tag,
-        _ => false,
-    }
+    a == b
 }

@@ -1,13 +1,16 @@
 // The faults of memories: why a memory refuses, and where.
-// Uses nothing.
-ghost use Rattle.std.specs.Prelude.{◌≡◌};
-ghost use Rattle.memory.specs.Faults.{memory_layer, refusal_number, no_cell, unfit};
+// Uses nothing but the standard library.
+ghost use Rattle.std.specs.Prelude.{◌≡◌, Some};
+ghost use Rattle.memory.specs.Faults.{memory_layer, refusal_number, refusal_words, fault_line, no_cell, unfit};
+
+use std::error::Error;
+use std::fmt;
 
 // The layer of memories.
 const MEMORY_LAYER: u8 = 1;
 
-// Why a memory refuses, by number.
-#[derive(Clone, Copy)]
+// Why a memory refuses. The rules give each refusal the number by which it is told.
+#[derive(Clone, Copy, Debug, PartialEq, Eq)]
 pub enum MemoryRefusal {
     // The memory has no such cell.
     NoCell = 1,
@@ -15,8 +18,28 @@ pub enum MemoryRefusal {
     Unfit = 2,
 }
 
+// The number of a refusal.
+impl From<MemoryRefusal> for u8 {
+    ghost from_gives = { λ refusal number. number ≡ refusal_number refusal };
+
+    fn from(refusal: MemoryRefusal) -> u8 {
+        refusal as u8
+    }
+}
+
+impl fmt::Display for MemoryRefusal {
+    ghost output = { λ refusal. Some (refusal_words refusal) };
+
+    fn fmt<W: fmt::Write>(&self, f: &mut fmt::Formatter<W>) -> fmt::Result {
+        f.write_str(match self {
+            MemoryRefusal::NoCell => "the memory has no such cell",
+            MemoryRefusal::Unfit => "the cell does not fit the memory's limits",
+        })
+    }
+}
+
 // A refusal and its place: the index of the cell, or 0.
-#[derive(Clone, Copy)]
+#[derive(Clone, Copy, Debug, PartialEq, Eq)]
 pub struct MemoryFault {
     pub refusal: MemoryRefusal,
     pub place: usize,
@@ -54,7 +77,7 @@ impl MemoryFault {
     pub fn number(&self) -> u8
         ensures { result ≡ refusal_number self.now.refusal }
     {
-        self.refusal as u8
+        self.refusal.into()
     }
 
     // Where the refusal was met.
@@ -64,3 +87,19 @@ impl MemoryFault {
         self.place
     }
 }
+
+impl fmt::Display for MemoryFault {
+    ghost output = { λ fault. Some (fault_line fault) };
+
+    fn fmt<W: fmt::Write>(&self, f: &mut fmt::Formatter<W>) -> fmt::Result {
+        let Self { refusal, place } = *self;
+        let layer = self.layer();
+        let number = self.number();
+        write!(
+            f,
+            "layer {layer}, number {number}, place {place}: {refusal}"
+        )
+    }
+}
+
+impl Error for MemoryFault {}

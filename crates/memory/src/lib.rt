@@ -10,4 +10,4 @@ mod limits;
 pub use cell::{Cell, TaggedId, same_cell};
 pub use fault::{MemoryFault, MemoryRefusal};
 pub use interface::Memory;
-pub use limits::{Limits, admit_change, cell_fits, counted_cells, open_limits};
+pub use limits::{Limits, counted_cells};

@@ -1,7 +1,7 @@
 // The limits of a memory, and the tests that each call makes before it acts.
 // Uses cells and faults.
 ghost use Rattle.std.specs.Prelude.{◌≡◌, min};
-ghost use Rattle.memory.specs.Rules.{fitting, smaller_limits, open_limits_lem, admission, fitness};
+ghost use Rattle.memory.specs.Rules.{fitting, smaller_limits, open_limits, admission, fitness};
 
 use crate::cell::Cell;
 use crate::fault::MemoryFault;
@@ -17,7 +17,7 @@ const GREATEST_PROCESS: u16 = 32_767;
 const GREATEST_TAG: u64 = 0xffff_ffff_ffff;
 
 // The greatest process number, tag and code.
-#[derive(Clone, Copy)]
+#[derive(Clone, Copy, Debug, PartialEq, Eq)]
 pub struct Limits {
     pub process: u16,
     pub tag: u64,
@@ -25,6 +25,17 @@ pub struct Limits {
 }
 
 impl Limits {
+    // The limits of open and packed memory.
+    pub fn open<V: ValueKind>() -> Limits
+        ensures { result ≡ open_limits V.GREATEST_CODE }
+    {
+        Limits {
+            process: GREATEST_PROCESS,
+            tag: GREATEST_TAG,
+            code: V::GREATEST_CODE,
+        }
+    }
+
     // Each limit the smaller of the two.
     pub fn smaller(self, other: Limits) -> Limits
         ensures { result ≡ smaller_limits self other }
@@ -35,16 +46,44 @@ impl Limits {
             code: self.code.min(other.code),
         }
     }
-}
 
-// The limits of open and packed memory.
-pub fn open_limits<V: ValueKind>() -> Limits
-    ensures { result ≡ open_limits_lem V.greatest }
-{
-    Limits {
-        process: GREATEST_PROCESS,
-        tag: GREATEST_TAG,
-        code: V::code_limit(),
+    // Whether the cell passes none of the limits.
+    pub fn fit<V: ValueKind>(self, cell: &Cell<V>) -> bool
+        ensures { result ≡ fitting V.coded self cell.now }
+    {
+        match cell {
+            Cell::Value(value) => value.code() <= self.code,
+            Cell::Id(id) => id.process <= self.process && id.tag <= self.tag,
+        }
+    }
+
+    // Refuses a cell that does not fit, naming the place.
+    pub(crate) fn admit_cell<V: ValueKind>(
+        self,
+        place: usize,
+        cell: &Cell<V>,
+    ) -> Result<(), MemoryFault>
+        ensures { result ≡ fitness V.coded self place cell.now }
+    {
+        if !self.fit(cell) {
+            return Err(MemoryFault::unfit(place));
+        }
+        Ok(())
+    }
+
+    // Refuses an index that is not below the count, then a cell that does not fit: the tests before a change.
+    pub fn admit_change<V: ValueKind>(
+        self,
+        count: usize,
+        i: usize,
+        cell: &Cell<V>,
+    ) -> Result<(), MemoryFault>
+        ensures { result ≡ admission V.coded self count i cell.now }
+    {
+        if i >= count {
+            return Err(MemoryFault::no_cell(i));
+        }
+        self.admit_cell(i, cell)
     }
 }
 
@@ -53,43 +92,4 @@ pub fn counted_cells(table: usize) -> usize
     ensures { result ≡ min 65535 table }
 {
     table.min(MOST_CELLS)
-}
-
-// Whether the cell passes none of the limits.
-pub fn cell_fits<V: ValueKind>(limits: Limits, cell: &Cell<V>) -> bool
-    ensures { result ≡ fitting V.coded limits cell.now }
-{
-    match cell {
-        Cell::Value(value) => value.code() <= limits.code,
-        Cell::Id(id) => id.process <= limits.process && id.tag <= limits.tag,
-    }
-}
-
-// Refuses a cell that does not fit, naming the place.
-pub(crate) fn admit_cell<V: ValueKind>(
-    limits: Limits,
-    place: usize,
-    cell: &Cell<V>,
-) -> Result<(), MemoryFault>
-    ensures { result ≡ fitness V.coded limits place cell.now }
-{
-    if !cell_fits(limits, cell) {
-        return Err(MemoryFault::unfit(place));
-    }
-    Ok(())
-}
-
-// Refuses an index that is not below the length, then a cell that does not fit: the tests before a change.
-pub fn admit_change<V: ValueKind>(
-    count: usize,
-    limits: Limits,
-    i: usize,
-    cell: &Cell<V>,
-) -> Result<(), MemoryFault>
-    ensures { result ≡ admission V.coded limits count i cell.now }
-{
-    if i >= count {
-        return Err(MemoryFault::no_cell(i));
-    }
-    admit_cell(limits, i, cell)
 }

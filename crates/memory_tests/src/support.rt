@@ -3,7 +3,7 @@
 use memory::{Cell, Memory, MemoryFault, TaggedId, same_cell};
 use value::{Link, Node, Number, ValueKind};
 
-// The layer, number and place of a refusal.
+// The layer, number and place of a refusal: the tests look at the numbers themselves.
 pub type Refusal = (u8, u8, usize);
 
 fn numbers(fault: MemoryFault) -> Refusal {
@@ -15,10 +15,7 @@ pub fn store<V: ValueKind, M: Memory<V>>(
     i: usize,
     cell: &Cell<V>,
 ) -> Result<(), Refusal> {
-    match memory.store(i, cell) {
-        Ok(()) => Ok(()),
-        Err(fault) => Err(numbers(fault)),
-    }
+    memory.store(i, cell).map_err(numbers)
 }
 
 pub fn cas<V: ValueKind, M: Memory<V>>(
@@ -27,17 +24,11 @@ pub fn cas<V: ValueKind, M: Memory<V>>(
     old: &Cell<V>,
     new: &Cell<V>,
 ) -> Result<bool, Refusal> {
-    match memory.cas(i, old, new) {
-        Ok(said) => Ok(said),
-        Err(fault) => Err(numbers(fault)),
-    }
+    memory.cas(i, old, new).map_err(numbers)
 }
 
 pub fn fits<V: ValueKind, M: Memory<V>>(memory: &M, cell: &Cell<V>) -> Result<(), Refusal> {
-    match memory.fits(cell) {
-        Ok(()) => Ok(()),
-        Err(fault) => Err(numbers(fault)),
-    }
+    memory.fits(cell).map_err(numbers)
 }
 
 // Whether a Load of i finds the cell.
@@ -46,15 +37,15 @@ pub fn holds<V: ValueKind, M: Memory<V>>(
     i: usize,
     cell: &Cell<V>,
 ) -> Result<bool, Refusal> {
-    match memory.load(i) {
-        Ok(found) => Ok(same_cell(&found, cell)),
-        Err(fault) => Err(numbers(fault)),
-    }
+    memory
+        .load(i)
+        .map(|found| same_cell(&found, cell))
+        .map_err(numbers)
 }
 
 pub fn number(value: u32) -> Cell<Number> {
     Cell::Value(Number {
-        value: value as u64,
+        value: u64::from(value),
     })
 }
 

@@ -3,9 +3,9 @@
 #![tactic(auto)]
 
 ghost use Rattle.std.specs.Prelude.{◌≡◌};
-ghost use Rattle.memory.specs.Rules.{smaller_limits, store_answer, store_after, cas_answer, cas_after};
+ghost use Rattle.memory.specs.Rules.{smaller_limits};
 
-use memory::{Cell, Limits, Memory, MemoryFault, admit_change};
+use memory::{Cell, Limits, Memory, MemoryFault};
 use value::ValueKind;
 
 // Each limit is the smaller of `own` and of that of `below`.
@@ -19,6 +19,11 @@ impl<V: ValueKind, M: Memory<V>> Memory<V> for Narrow<M> {
     ghost cells = { λ m. M.Memory.cells m.below };
 
     ghost limits = { λ m. smaller_limits (M.Memory.limits m.below) m.own };
+
+    // The limits of its own stay, and so do those of the memory below.
+    ghost store_leaves = { λ m i cell answer n. (n.own ≡ m.own) × (M.Memory.limits n.below ≡ M.Memory.limits m.below) };
+
+    ghost cas_leaves = { λ m i cell answer n. (n.own ≡ m.own) × (M.Memory.limits n.below ≡ M.Memory.limits m.below) };
 
     ghost few = { λ m. M.Memory.few m.below };
 
@@ -34,26 +39,13 @@ impl<V: ValueKind, M: Memory<V>> Memory<V> for Narrow<M> {
         self.below.load(i)
     }
 
-    // Beyond the interface, the limits of its own stay, and so do those of the memory below.
-    fn store(&mut self, i: usize, cell: &Cell<V>) -> Result<(), MemoryFault>
-        ensures answer { result ≡ store_answer V.coded (smaller_limits (M.Memory.limits self.old.below) self.old.own) (M.Memory.cells self.old.below) i cell.now }
-        ensures after { M.Memory.cells self.new.below ≡ store_after V.coded (smaller_limits (M.Memory.limits self.old.below) self.old.own) (M.Memory.cells self.old.below) i cell.now }
-        ensures kept { smaller_limits (M.Memory.limits self.new.below) self.new.own ≡ smaller_limits (M.Memory.limits self.old.below) self.old.own }
-        ensures own { self.new.own ≡ self.old.own }
-        ensures below { M.Memory.limits self.new.below ≡ M.Memory.limits self.old.below }
-    {
-        admit_change(self.len(), self.limits(), i, cell)?;
+    fn store(&mut self, i: usize, cell: &Cell<V>) -> Result<(), MemoryFault> {
+        self.admit(i, cell)?;
         self.below.store(i, cell)
     }
 
-    fn cas(&mut self, i: usize, old: &Cell<V>, new: &Cell<V>) -> Result<bool, MemoryFault>
-        ensures answer { result ≡ cas_answer V.coded (smaller_limits (M.Memory.limits self.old.below) self.old.own) (M.Memory.cells self.old.below) i old.now new.now }
-        ensures after { M.Memory.cells self.new.below ≡ cas_after V.coded (smaller_limits (M.Memory.limits self.old.below) self.old.own) (M.Memory.cells self.old.below) i old.now new.now }
-        ensures kept { smaller_limits (M.Memory.limits self.new.below) self.new.own ≡ smaller_limits (M.Memory.limits self.old.below) self.old.own }
-        ensures own { self.new.own ≡ self.old.own }
-        ensures below { M.Memory.limits self.new.below ≡ M.Memory.limits self.old.below }
-    {
-        admit_change(self.len(), self.limits(), i, new)?;
+    fn cas(&mut self, i: usize, old: &Cell<V>, new: &Cell<V>) -> Result<bool, MemoryFault> {
+        self.admit(i, new)?;
         self.below.cas(i, old, new)
     }
 }

@@ -4,4 +4,4 @@
 
 mod kind;
 
-pub use kind::OperationKind;
+pub use kind::{OperationKind, UnknownKind};

@@ -1,15 +1,16 @@
 // Packed memory: cells kept as 64-bit words in a table that the caller lends.
 // Uses the interface and the words of cells. Cells are compared, never words.
 ghost use Rattle.std.specs.Prelude.{◌≡◌, map};
-ghost use Rattle.memory.specs.Rules.{first_few, open_limits_lem, store_answer, store_after, cas_answer, cas_after, table_stored, table_swapped};
+ghost use Rattle.memory.specs.Rules.{first_few, open_limits, table_stored, table_swapped};
 ghost use Rattle.packed_memory.specs.Words.{word_of, cell_of, cells_of};
 
 use crate::words::{pack, unpack};
-use memory::{Cell, Limits, Memory, MemoryFault, counted_cells, open_limits, same_cell};
+use memory::{Cell, Limits, Memory, MemoryFault, counted_cells, same_cell};
 use std::marker::PhantomData;
 use value::ValueKind;
 
-// A table of words, of which the first 65,535 count, and the kind of the values that they stand for.
+// A table of words, of which the first 65,535 count, and the kind of the values that they stand for. The calls compare an
+// index with the table's length and not with `len`, which speaks of cells: so it is known to be one of the table.
 #[derive(Drop)]
 pub struct PackedMemory<'a, V> {
     pub words: &'a mut [u64],
@@ -19,7 +20,13 @@ pub struct PackedMemory<'a, V> {
 impl<'a, V: ValueKind> Memory<V> for PackedMemory<'a, V> {
     ghost cells = { λ m. cells_of V.decoded m.words.now };
 
-    ghost limits = { λ m. open_limits_lem V.greatest };
+    ghost limits = { λ m. open_limits V.GREATEST_CODE };
+
+    // Exactly one word is written, the word of the cell, and it is one of the caller's table.
+    ghost store_leaves = { λ m i cell answer n. (n.words.now ≡ table_stored answer m.words.now i (word_of V.coded cell)) × (n.words.ghost_name ≡ m.words.ghost_name) };
+
+    // A yes writes exactly one word of the caller's table, and nothing else changes any.
+    ghost cas_leaves = { λ m i cell answer n. (n.words.now ≡ table_swapped answer m.words.now i (word_of V.coded cell)) × (n.words.ghost_name ≡ m.words.ghost_name) };
 
     ghost few = { λ m. first_few (map (cell_of V.decoded) m.words.now) };
 
@@ -28,7 +35,7 @@ impl<'a, V: ValueKind> Memory<V> for PackedMemory<'a, V> {
     }
 
     fn limits(&self) -> Limits {
-        open_limits::<V>()
+        Limits::open::<V>()
     }
 
     fn load(&self, i: usize) -> Result<Cell<V>, MemoryFault> {
@@ -38,14 +45,7 @@ impl<'a, V: ValueKind> Memory<V> for PackedMemory<'a, V> {
         Ok(unpack(self.words[i]))
     }
 
-    // Beyond the interface, exactly one word is written, the word of the cell, and it is one of the caller's table.
-    fn store(&mut self, i: usize, cell: &Cell<V>) -> Result<(), MemoryFault>
-        ensures answer { result ≡ store_answer V.coded (open_limits_lem V.greatest) (cells_of V.decoded self.old.words.now) i cell.now }
-        ensures after { cells_of V.decoded self.new.words.now ≡ store_after V.coded (open_limits_lem V.greatest) (cells_of V.decoded self.old.words.now) i cell.now }
-        ensures kept { open_limits_lem V.greatest ≡ open_limits_lem V.greatest }
-        ensures words { self.new.words.now ≡ table_stored result self.old.words.now i (word_of V.coded cell.now) }
-        ensures lender { self.new.words.ghost_name ≡ self.old.words.ghost_name }
-    {
+    fn store(&mut self, i: usize, cell: &Cell<V>) -> Result<(), MemoryFault> {
         if i >= counted_cells(self.words.len()) {
             return Err(MemoryFault::no_cell(i));
         }
@@ -56,14 +56,7 @@ impl<'a, V: ValueKind> Memory<V> for PackedMemory<'a, V> {
         Ok(())
     }
 
-    // Beyond the interface, a yes writes exactly one word of the caller's table, and nothing else changes any.
-    fn cas(&mut self, i: usize, old: &Cell<V>, new: &Cell<V>) -> Result<bool, MemoryFault>
-        ensures answer { result ≡ cas_answer V.coded (open_limits_lem V.greatest) (cells_of V.decoded self.old.words.now) i old.now new.now }
-        ensures after { cells_of V.decoded self.new.words.now ≡ cas_after V.coded (open_limits_lem V.greatest) (cells_of V.decoded self.old.words.now) i old.now new.now }
-        ensures kept { open_limits_lem V.greatest ≡ open_limits_lem V.greatest }
-        ensures words { self.new.words.now ≡ table_swapped result self.old.words.now i (word_of V.coded new.now) }
-        ensures lender { self.new.words.ghost_name ≡ self.old.words.ghost_name }
-    {
+    fn cas(&mut self, i: usize, old: &Cell<V>, new: &Cell<V>) -> Result<bool, MemoryFault> {
         if i >= counted_cells(self.words.len()) {
             return Err(MemoryFault::no_cell(i));
         }

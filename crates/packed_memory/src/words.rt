@@ -3,7 +3,7 @@
 ghost use Rattle.std.specs.Prelude.{◌≡◌};
 ghost use Rattle.packed_memory.specs.Words.{packed, cell_of, LosesNothing};
 
-use memory::{Cell, TaggedId, cell_fits, open_limits};
+use memory::{Cell, Limits, TaggedId};
 use value::ValueKind;
 
 // The cell that a word stands for. An even word whose code gives no value stands for id (0, 0).
@@ -11,6 +11,7 @@ pub fn unpack<V: ValueKind>(word: u64) -> Cell<V>
     ensures { result ≡ cell_of V.decoded word }
 {
     if word % 2 == 1 {
+        // `as` narrows, and is proved to lose nothing.
         return Cell::Id(TaggedId {
             process: (word % 65_536 / 2) as u16,
             tag: word / 65_536,
@@ -24,14 +25,14 @@ pub fn unpack<V: ValueKind>(word: u64) -> Cell<V>
 
 // The word of a cell, if the cell fits.
 pub fn pack<V: ValueKind>(cell: &Cell<V>) -> Option<u64>
-    ensures answer { result ≡ packed V.coded V.greatest cell.now }
-    ensures lossless { LosesNothing V.coded V.decoded V.greatest }
+    ensures answer { result ≡ packed V.coded V.GREATEST_CODE cell.now }
+    ensures lossless { LosesNothing V.coded V.decoded V.GREATEST_CODE }
 {
-    if !cell_fits(open_limits::<V>(), cell) {
+    if !Limits::open::<V>().fit(cell) {
         return None;
     }
     match cell {
         Cell::Value(value) => Some(2 * value.code()),
-        Cell::Id(id) => Some(id.tag * 65_536 + id.process as u64 * 2 + 1),
+        Cell::Id(id) => Some(id.tag * 65_536 + u64::from(id.process) * 2 + 1),
     }
 }

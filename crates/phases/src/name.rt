@@ -1,8 +1,11 @@
 // The names of the lines, as the log shows them.
-ghost use Rattle.std.specs.Prelude.{◌≡◌};
+// Uses nothing but the standard library.
+ghost use Rattle.std.specs.Prelude.{◌≡◌, Some};
 ghost use Rattle.phases.specs.Names.{line_name};
 
-#[derive(Clone, Copy)]
+use std::fmt;
+
+#[derive(Clone, Copy, Debug, PartialEq, Eq)]
 pub enum Line {
     L13,
     L1,
@@ -33,5 +36,14 @@ impl Line {
             Line::S6 => "S6",
             Line::S9 => "S9",
         }
+    }
+}
+
+// A line is shown by its name.
+impl fmt::Display for Line {
+    ghost output = { λ line. Some (line_name line) };
+
+    fn fmt<W: fmt::Write>(&self, f: &mut fmt::Formatter<W>) -> fmt::Result {
+        f.write_str(self.name())
     }
 }

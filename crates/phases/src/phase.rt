@@ -1,8 +1,9 @@
 // Where a process stands in its operation: which line it makes next, and what it keeps for it.
+// Uses cells and tagged ids.
 use memory::{Cell, TaggedId};
 
 // Where a READ stands, alone or inside another operation.
-#[derive(Clone, Copy)]
+#[derive(Clone, Copy, Debug, PartialEq, Eq)]
 pub enum ReadPhase<V> {
     // 13: load val; a value ends the READ
     Look,
@@ -14,8 +15,9 @@ pub enum ReadPhase<V> {
     Reset { kept: TaggedId, saved: V },
 }
 
-// Where a process stands. `operand` counts the operands of its operation from 0.
-#[derive(Clone, Copy)]
+// Where a process stands. `operand` counts the operands of its operation from 0. The two collects and their ids have
+// phases of their own, since each is a named line of the rules.
+#[derive(Clone, Copy, Debug, PartialEq, Eq)]
 pub enum Phase<V> {
     // no operation runs
     Idle,

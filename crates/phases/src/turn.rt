@@ -1,9 +1,12 @@
 // What a line does to its operation and process, beside the access: what it records, and where it leads.
+// Uses phases and tagged ids.
 use crate::phase::{Phase, ReadPhase};
 use memory::TaggedId;
 
 // What a line records in the operand of this index: an id or a value, of the first or the second collect.
-#[derive(Clone, Copy)]
+// It has a case for nothing, since a line that may not find what it found has no finding, and an Option in an
+// Option would not say which none is which.
+#[derive(Clone, Copy, Debug, PartialEq, Eq)]
 pub enum Finding<V> {
     Nothing,
     FirstId(usize, TaggedId),
@@ -13,7 +16,7 @@ pub enum Finding<V> {
 }
 
 // Which step may turn out to be the operation's effect step.
-#[derive(Clone, Copy)]
+#[derive(Clone, Copy, Debug, PartialEq, Eq)]
 pub enum Effect {
     // the step that ends the operation
     Here,
@@ -24,27 +27,27 @@ pub enum Effect {
 }
 
 // What an operation answers: the values that it collected, yes, or no.
-#[derive(Clone, Copy)]
+#[derive(Clone, Copy, Debug, PartialEq, Eq)]
 pub enum Answer {
     Values,
     Yes,
     No,
 }
 
-// What a step may be to its operation: an 8 that said yes, or the end of a first collect.
-#[derive(Clone, Copy)]
+// What a step may be to its operation, if anything: an 8 that said yes, or the end of a first collect.
+#[derive(Clone, Copy, Debug, PartialEq, Eq)]
 pub enum Milestone {
-    Plain,
     Marked,
     Collected,
 }
 
-// Where the process goes: on to another phase, or to the end of its operation.
-#[derive(Clone, Copy)]
+// Where the process goes: on to another phase, or to the end of its operation. Both are a line's regular outcome, so
+// it is no Result, and each has two fields, so it is no Option.
+#[derive(Clone, Copy, Debug, PartialEq, Eq)]
 pub enum Turn<V> {
     On {
         phase: Phase<V>,
-        milestone: Milestone,
+        milestone: Option<Milestone>,
     },
     Ends {
         answer: Answer,
@@ -52,8 +55,8 @@ pub enum Turn<V> {
     },
 }
 
-// Where a READ goes, or the value that ends it.
-#[derive(Clone, Copy)]
+// Where a READ goes, or the value that ends it. Both are a line's regular outcome, so it is no Result.
+#[derive(Clone, Copy, Debug, PartialEq, Eq)]
 pub enum ReadTurn<V> {
     On(ReadPhase<V>),
     Got(V),

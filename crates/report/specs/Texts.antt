@@ -1,5 +1,5 @@
 -- The report on a run sheet, as a function of its bytes.
-use Rattle.std.specs.Prelude.{◌≡◌, ℕ, ◌+◌, Bool, true, cond, List, [], ◌∷◌, ◌++◌, length, is_ok, Ok, Err, string_bytes, Result, OnOk, ◌==◌, slice_index}
+use Rattle.std.specs.Prelude.{◌≡◌, ℕ, ◌+◌, Bool, true, cond, List, [], ◌∷◌, ◌++◌, length, is_ok, Ok, Err, string_bytes, codes, Result, ◌==◌, slice_index}
 use Rattle.value.specs.declared.link.Link.{Link}
 use Rattle.value.specs.declared.number.Number.{Number}
 use Rattle.value.specs.Codes.{number_of, link_code, link_of}
@@ -8,11 +8,7 @@ use Rattle.sheet.specs.declared.ScriptItem.{ScriptItem}
 use Rattle.sheet.specs.Parts.{Op, Parts}
 use Rattle.sheet.specs.Reading.{read_answer}
 use Rattle.report.specs.declared.answer.Report.{Report}
-use Rattle.report.specs.Lines.{size_line, header_line, values_heading, value_line, operations_heading, operation_line, schedule_heading, item_line, started_by, again_line, refusal_line}
-
--- the text was added at the end, unless memory failed
-abbrev pub Adds : {E : Type 0} → Result (Unit {0}) E → List ℕ → List ℕ → List ℕ → Type 0
-Adds r before text after = OnOk r (after ≡ before ++ text)
+use Rattle.report.specs.Lines.{size_line, header_line, value_line, operation_line, item_line, started_by, again_line, refusal_line}
 
 -- a line for each item, with its place in the list
 abbrev pub numbered : {X : Type 0} → (ℕ → X → List ℕ) → ℕ → List X → List ℕ
@@ -26,13 +22,13 @@ turns i started (x ∷ rest) = item_line (i + 1) started x ++ turns (i + 1) (sta
 
 module _ {V : Type 0} (code : V → ℕ) where
   abbrev pub values_text : List V → List ℕ
-  values_text values = values_heading ++ numbered (λ i v. value_line i (code v)) 0 values
+  values_text values = codes "initial values\n" ++ numbered (λ i v. value_line i (code v)) 0 values
 
   abbrev pub operations_text : List (Op V) → List ℕ
-  operations_text ops = operations_heading ++ numbered (operation_line code) 0 ops
+  operations_text ops = codes "operations\n" ++ numbered (operation_line code) 0 ops
 
 abbrev pub script_text : List ScriptItem → List ℕ
-script_text items = schedule_heading ++ turns 0 0 items
+script_text items = codes "schedule\n" ++ turns 0 0 items
 
 module _ {V : Type 0} (code : V → ℕ) (number : ℕ) where
   -- what a sheet of this length says
@@ -47,8 +43,8 @@ module _ {V : Type 0} (code : V → ℕ) (number : ℕ) where
   answer_text long (Err f) = refusal_line f
 
 -- a sheet whose byte 1 is 2 is read as links, any other as numbers
-abbrev pub is_links_lem : List ℕ → Bool
-is_links_lem bytes = slice_index bytes 1 == 2
+abbrev pub is_links : List ℕ → Bool
+is_links bytes = slice_index bytes 1 == 2
 
 abbrev pub links_answer : List ℕ → Result (Parts Link) SheetFault
 links_answer bytes = read_answer link_of bytes 2
@@ -57,10 +53,10 @@ abbrev pub numbers_answer : List ℕ → Result (Parts Number) SheetFault
 numbers_answer bytes = read_answer number_of bytes 1
 
 unfoldable pub report_text : List ℕ → List ℕ
-report_text bytes = cond (is_links_lem bytes) (answer_text link_code 2 (length bytes) (links_answer bytes)) (answer_text (λ v. v.value) 1 (length bytes) (numbers_answer bytes))
+report_text bytes = cond (is_links bytes) (answer_text link_code 2 (length bytes) (links_answer bytes)) (answer_text (λ v. v.value) 1 (length bytes) (numbers_answer bytes))
 
 unfoldable pub is_accepted : List ℕ → Bool
-is_accepted bytes = cond (is_links_lem bytes) (is_ok (links_answer bytes)) (is_ok (numbers_answer bytes))
+is_accepted bytes = cond (is_links bytes) (is_ok (links_answer bytes)) (is_ok (numbers_answer bytes))
 
 -- what a report holds
 pub record Reports (r : Report) (text : List ℕ) (accepted : Bool) : Type 0 where

@@ -6,7 +6,6 @@ mod again;
 mod answer;
 mod lines;
 mod operations;
-mod refusal;
 mod whole;
 
 pub use answer::Report;

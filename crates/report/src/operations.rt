@@ -1,130 +1,80 @@
-// The lines on a sheet's operations. Each function adds its words at the end of a text. Uses the operations
-// of `sheet` and the codes of `value`.
-ghost use Rattle.std.specs.Prelude.{◌+◌, ◌^◌, ◌<◌, ◌++◌, map, string_bytes};
+// The lines on a sheet's operations. Uses the operations of `sheet` and the codes of `value`.
+ghost use Rattle.std.specs.Prelude.{ℕ, List, Some, OnOk, map};
+ghost use Rattle.std.specs.Fmt.{HasWritten, IsPlainFormatter};
+ghost use Rattle.std.specs.Iterator.{Drains, IsFinite};
 ghost use Rattle.std.specs.List.{flat_map};
 ghost use Rattle.sheet.specs.Parts.{act_of, op_of};
-ghost use Rattle.report.specs.Lines.{operations_heading, spaced, read_words, ll_words, sc_words, snapshot_word, kcss_word, expecting_word, new_words, act_words, operation_line};
-ghost use Rattle.report.specs.Texts.{Adds, operations_text};
+ghost use Rattle.report.specs.Lines.{spaced, act_words};
+ghost use Rattle.report.specs.Texts.{operations_text};
 
-use sheet::{Action, Operand, Operation};
-use std::alloc::AllocError;
+use sheet::{Action, Operation};
+use std::fmt;
 use value::ValueKind;
 
-// A number with a blank before it.
-fn push_spaced(out: &mut String, number: u64) -> Result<(), AllocError>
-    ensures { Adds result (string_bytes out.old) (spaced number) (string_bytes out.new) }
+// Numbers, each after a blank.
+fn write_spaced<W: fmt::Write, I: Iterator<Item = u64> + Drop>(
+    f: &mut fmt::Formatter<W>,
+    numbers: I,
+) -> fmt::Result
+    requires can { I.can_next numbers }
+    requires finite { IsFinite (I.remaining numbers) }
+    ensures { OnOk result ((ns : List ℕ) × Drains I.next_gives numbers ns × (IsPlainFormatter f.old → HasWritten W.write_str_gives f.old (flat_map spaced ns) f.new)) }
 {
-    write!(out, " {number}")
-}
-
-// Locations, each after a blank.
-fn push_locations(out: &mut String, locations: &[u16]) -> Result<(), AllocError>
-    ensures { Adds result (string_bytes out.old) (flat_map spaced locations.now) (string_bytes out.new) }
-{
-    for location in locations {
-        push_spaced(out, *location as u64)?;
+    for number in numbers {
+        write!(f, " {number}")?;
     }
     Ok(())
-}
-
-// The locations that a KCSS names, each after a blank.
-fn push_named<V: ValueKind>(out: &mut String, operands: &[Operand<V>]) -> Result<(), AllocError>
-    ensures { Adds result (string_bytes out.old) (flat_map (λ o. spaced o.location) operands.now) (string_bytes out.new) }
-{
-    for operand in operands {
-        push_spaced(out, operand.location as u64)?;
-    }
-    Ok(())
-}
-
-// The codes that a KCSS expects, each after a blank.
-fn push_expected<V: ValueKind>(out: &mut String, operands: &[Operand<V>]) -> Result<(), AllocError>
-    ensures { Adds result (string_bytes out.old) (flat_map (λ o. spaced (V.coded o.expected)) operands.now) (string_bytes out.new) }
-{
-    for operand in operands {
-        push_spaced(out, operand.expected.code())?;
-    }
-    Ok(())
-}
-
-fn push_read(out: &mut String, location: u16) -> Result<(), AllocError>
-    ensures { Adds result (string_bytes out.old) (read_words location) (string_bytes out.new) }
-{
-    write!(out, "READ {location}")
-}
-
-fn push_ll(out: &mut String, location: u16) -> Result<(), AllocError>
-    ensures { Adds result (string_bytes out.old) (ll_words location) (string_bytes out.new) }
-{
-    write!(out, "LL {location}")
-}
-
-fn push_sc(out: &mut String, location: u16, new: u64) -> Result<(), AllocError>
-    ensures { Adds result (string_bytes out.old) (sc_words location new) (string_bytes out.new) }
-{
-    write!(out, "SC {location}, new {new}")
-}
-
-fn push_snapshot(out: &mut String, locations: &[u16]) -> Result<(), AllocError>
-    ensures { Adds result (string_bytes out.old) (snapshot_word ++ flat_map spaced locations.now) (string_bytes out.new) }
-{
-    write!(out, "SNAPSHOT")?;
-    push_locations(out, locations)
-}
-
-fn push_kcss<V: ValueKind>(
-    out: &mut String,
-    operands: &[Operand<V>],
-    new: u64,
-) -> Result<(), AllocError>
-    ensures { Adds result (string_bytes out.old) (kcss_word ++ (flat_map (λ o. spaced o.location) operands.now ++ (expecting_word ++ (flat_map (λ o. spaced (V.coded o.expected)) operands.now ++ new_words new)))) (string_bytes out.new) }
-{
-    write!(out, "KCSS")?;
-    push_named(out, operands)?;
-    write!(out, ", expecting")?;
-    push_expected(out, operands)?;
-    write!(out, ", new {new}")
 }
 
 // What an operation does.
-fn push_action<V: ValueKind>(out: &mut String, action: &Action<V>) -> Result<(), AllocError>
-    ensures { Adds result (string_bytes out.old) (act_words V.coded (act_of action.now)) (string_bytes out.new) }
-{
-    match action {
-        Action::Read(location) => push_read(out, *location),
-        Action::Ll(location) => push_ll(out, *location),
-        Action::Sc { location, new } => push_sc(out, *location, new.code()),
-        Action::Snapshot(locations) => push_snapshot(out, locations),
-        Action::Kcss { new, operands } => push_kcss(out, operands, new.code()),
+#[derive(Clone, Copy)]
+struct Words<'a, V>(&'a Action<V>);
+
+impl<V: ValueKind> fmt::Display for Words<'_, V> {
+    ghost output = { λ words. Some (act_words V.coded (act_of words.0.now)) };
+
+    fn fmt<W: fmt::Write>(&self, f: &mut fmt::Formatter<W>) -> fmt::Result {
+        match self.0 {
+            Action::Read(location) => write!(f, "READ {location}"),
+            Action::Ll(location) => write!(f, "LL {location}"),
+            Action::Sc { location, new } => {
+                let code = new.code();
+                write!(f, "SC {location}, new {code}")
+            }
+            Action::Snapshot(locations) => {
+                write!(f, "SNAPSHOT")?;
+                write_spaced(f, locations.iter().map(|location| u64::from(*location)))
+            }
+            Action::Kcss { new, operands } => {
+                write!(f, "KCSS")?;
+                write_spaced(
+                    f,
+                    operands.iter().map(|operand| u64::from(operand.location)),
+                )?;
+                write!(f, ", expecting")?;
+                write_spaced(f, operands.iter().map(|operand| operand.expected.code()))?;
+                let code = new.code();
+                write!(f, ", new {code}")
+            }
+        }
     }
 }
 
-// The operation at place `i` of the list, counted from 1 in the text.
-fn push_operation<V: ValueKind>(
-    out: &mut String,
-    i: usize,
-    operation: &Operation<V>,
-) -> Result<(), AllocError>
-    requires { i + 1 < 2 ^ 64 }
-    ensures { Adds result (string_bytes out.old) (operation_line V.coded i (op_of operation.now)) (string_bytes out.new) }
-{
-    let number = i + 1;
-    let process = operation.process;
-    write!(out, "  {number}: process {process}, ")?;
-    push_action(out, &operation.action)?;
-    writeln!(out)
-}
+// The operations, counted from 1.
+#[derive(Clone, Copy)]
+pub(crate) struct Operations<'a, V>(pub &'a [Operation<V>]);
 
-// The operations.
-pub(crate) fn push_operations<V: ValueKind>(
-    out: &mut String,
-    operations: &[Operation<V>],
-) -> Result<(), AllocError>
-    ensures { Adds result (string_bytes out.old) (operations_text V.coded (map op_of operations.now)) (string_bytes out.new) }
-{
-    writeln!(out, "operations")?;
-    for (i, operation) in operations.iter().enumerate() {
-        push_operation(out, i, operation)?;
+impl<V: ValueKind> fmt::Display for Operations<'_, V> {
+    ghost output = { λ list. Some (operations_text V.coded (map op_of list.0.now)) };
+
+    fn fmt<W: fmt::Write>(&self, f: &mut fmt::Formatter<W>) -> fmt::Result {
+        writeln!(f, "operations")?;
+        for (i, operation) in self.0.iter().enumerate() {
+            let number = i + 1;
+            let process = operation.process;
+            let words = Words(&operation.action);
+            writeln!(f, "  {number}: process {process}, {words}")?;
+        }
+        Ok(())
     }
-    Ok(())
 }

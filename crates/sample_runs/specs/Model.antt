@@ -1,15 +1,13 @@
 -- An executable model of processes that run the lines over numbers: the cells, the processes, and a trace of what has ended.
 -- A script of commands starts operations and makes steps, which are numbered from 1.
-use Rattle.std.specs.Prelude.{ℕ, zero, suc, Bool, true, false, cond, List, [], ◌∷◌, Some, None, Option, ◌==◌, nat_lt}
+use Rattle.std.specs.Prelude.{ℕ, suc, cond, List, [], ◌∷◌, Some, None, Option, ◌==◌, nat_lt, ◌++◌, map}
 use Rattle.memory.specs.declared.cell.TaggedId.{TaggedId}
 use Rattle.memory.specs.declared.cell.Cell.{Cell}
 use Rattle.memory.specs.Cells.{same}
 use Rattle.operation.specs.declared.kind.OperationKind.{OperationKind}
 use Rattle.operation.specs.declared.kind.OperationKind.TheVariants.{Read, Ll, Sc, Snapshot, Kcss}
 use Rattle.phases.specs.declared.name.Line.{Line}
-use Rattle.phases.specs.declared.phase.ReadPhase.TheVariants.{Look}
 use Rattle.phases.specs.declared.phase.Phase.{Phase}
-use Rattle.phases.specs.declared.phase.Phase.TheVariants.{Idle, Reading, Attempt, Linking, Save, Mark, Note, FirstId, FirstCollect, SecondCollect, SecondId, Swap}
 use Rattle.phases.specs.declared.records.Operand.{Operand}
 use Rattle.phases.specs.declared.records.Place.{Place}
 use Rattle.phases.specs.declared.records.Place.TheVariants.{Val, Tid, Saved}
@@ -18,17 +16,14 @@ use Rattle.phases.specs.declared.records.Access.TheVariants.{Load, Store, Cas}
 use Rattle.phases.specs.declared.records.Seen.{Seen}
 use Rattle.phases.specs.declared.records.Seen.TheVariants.{Found, Stored, Said}
 use Rattle.phases.specs.declared.turn.Finding.{Finding}
-use Rattle.phases.specs.declared.turn.Finding.TheVariants as finding
-use Rattle.phases.specs.declared.turn.Effect.{Effect}
-use Rattle.phases.specs.declared.turn.Effect.TheVariants.{Here, AtMark, AtCollect}
 use Rattle.phases.specs.declared.turn.Answer.{Answer}
 use Rattle.phases.specs.declared.turn.Answer.TheVariants.{Values, Yes, No}
 use Rattle.phases.specs.declared.turn.Milestone.{Milestone}
-use Rattle.phases.specs.declared.turn.Milestone.TheVariants.{Plain, Marked, Collected}
 use Rattle.phases.specs.declared.turn.Turn.{Turn}
 use Rattle.phases.specs.declared.turn.Turn.TheVariants.{On, Ends}
-use Rattle.lines.specs.Accesses.{next_access_lem}
-use Rattle.lines.specs.Advancing.{finding_of_lem, turn_of}
+use Rattle.lines.specs.Accesses.{next_access}
+use Rattle.lines.specs.Advancing.{finding_of, turn_of}
+use Rattle.lines.specs.Recording.{recorded, is_attempt, marked_after, collected_after, effect_step, first_phase}
 
 -- a value is its own code
 abbrev pub code : ℕ → ℕ
@@ -83,12 +78,8 @@ pub data Command : Type 0 where
   start : ℕ → OperationKind → List (ℕ × Option ℕ) → Option ℕ → Command
   step : ℕ → Command
 
-abbrev pub and_then : List Event → Event → List Event
-and_then [] e = e ∷ []
-and_then (d ∷ rest) e = d ∷ and_then rest e
-
 abbrev pub with_event : Machine → Event → Machine
-with_event m e = record { val = m.val; tid = m.tid; saved = m.saved; processes = m.processes; steps = m.steps; started = m.started; greatest_tag = m.greatest_tag; trace = and_then m.trace e }
+with_event m e = record { val = m.val; tid = m.tid; saved = m.saved; processes = m.processes; steps = m.steps; started = m.started; greatest_tag = m.greatest_tag; trace = m.trace ++ (e ∷ []) }
 
 abbrev pub with_process : Machine → ℕ → Process → Machine
 with_process m p q = record { val = m.val; tid = m.tid; saved = m.saved; processes = upd m.processes p q; steps = m.steps; started = m.started; greatest_tag = m.greatest_tag; trace = m.trace }
@@ -120,43 +111,13 @@ after_access m (Load place) = m
 after_access m (Store place c) = with_cell m place c
 after_access m (Cas place old new) = cond (same code (cell_at m place) old) (with_cell m place new) m
 
--- what a line records in an operand
-abbrev pub change_at : List (Operand ℕ) → ℕ → (Operand ℕ → Operand ℕ) → List (Operand ℕ)
-change_at [] i f = []
-change_at (o ∷ rest) zero f = f o ∷ rest
-change_at (o ∷ rest) (suc i) f = o ∷ change_at rest i f
-
-abbrev pub recorded : List (Operand ℕ) → Finding ℕ → List (Operand ℕ)
-recorded os finding.Nothing = os
-recorded os (finding.FirstId i id) = change_at os i (λ o. record { location = o.location; expected = o.expected; first = o.first; second = o.second; first_id = id; second_id = o.second_id })
-recorded os (finding.First i v) = change_at os i (λ o. record { location = o.location; expected = o.expected; first = Some v; second = o.second; first_id = o.first_id; second_id = o.second_id })
-recorded os (finding.Second i v) = change_at os i (λ o. record { location = o.location; expected = o.expected; first = o.first; second = Some v; first_id = o.first_id; second_id = o.second_id })
-recorded os (finding.SecondId i id) = change_at os i (λ o. record { location = o.location; expected = o.expected; first = o.first; second = o.second; first_id = o.first_id; second_id = id })
-
 abbrev pub firsts : List (Operand ℕ) → List (Option ℕ)
-firsts [] = []
-firsts (o ∷ rest) = o.first ∷ firsts rest
+firsts os = map (λ o. o.first) os
 
 abbrev pub outcome : Answer → List (Operand ℕ) → Outcome
 outcome Values os = gave (firsts os)
 outcome Yes os = said_yes
 outcome No os = said_no
-
--- the number of the effect step, in step `now`
-abbrev pub effect_step : Running → ℕ → Effect → ℕ
-effect_step r now Here = now
-effect_step r now AtMark = r.marked
-effect_step r now AtCollect = r.collected
-
-abbrev pub marked_by : Milestone → ℕ → ℕ → ℕ
-marked_by Plain now old = old
-marked_by Marked now old = now
-marked_by Collected now old = old
-
-abbrev pub collected_by : Milestone → ℕ → ℕ → ℕ
-collected_by Plain now old = old
-collected_by Marked now old = old
-collected_by Collected now old = now
 
 abbrev pub location_of : List (Operand ℕ) → Option ℕ
 location_of [] = None
@@ -172,10 +133,10 @@ link_after Kcss os link = link
 
 -- a running operation with this step counted and its finding recorded
 abbrev pub noting : Running → ℕ → Finding ℕ → Running
-noting r now f = record { number = r.number; kind = r.kind; operands = recorded r.operands f; new = r.new; phase = r.phase; began = cond (r.began == 0) now r.began; marked = r.marked; collected = r.collected }
+noting r now f = record { number = r.number; kind = r.kind; operands = recorded f r.operands; new = r.new; phase = r.phase; began = cond (r.began == 0) now r.began; marked = r.marked; collected = r.collected }
 
-abbrev pub moved : Running → ℕ → Phase ℕ → Milestone → Running
-moved r now phase milestone = record { number = r.number; kind = r.kind; operands = r.operands; new = r.new; phase = phase; began = r.began; marked = marked_by milestone now r.marked; collected = collected_by milestone now r.collected }
+abbrev pub moved : Running → ℕ → Phase ℕ → Option Milestone → Running
+moved r now phase milestone = record { number = r.number; kind = r.kind; operands = r.operands; new = r.new; phase = phase; began = r.began; marked = marked_after milestone now r.marked; collected = collected_after milestone now r.collected }
 
 -- the machine after an access, then the turn
 abbrev pub turned : Machine → ℕ → Process → Running → Turn ℕ → Machine
@@ -183,55 +144,15 @@ turned m p q r (On phase milestone) = with_process m p (record { tag = q.tag; li
 turned m p q r (Ends answer effect) =
     with_event
     (with_process m p (record { tag = q.tag; link = link_after r.kind r.operands q.link; running = None }))
-    (ended r.number p (outcome answer r.operands) r.began (effect_step r m.steps effect) m.steps)
+    (ended r.number p (outcome answer r.operands) r.began (effect_step effect m.steps r.marked r.collected) m.steps)
 
 -- `m` is the machine before the step, `n` the one after its access
 abbrev pub turns : Machine → Machine → ℕ → Process → Running → Option (Turn ℕ) → Machine
 turns m n p q r None = with_event m (misfit p)
 turns m n p q r (Some t) = turned n p q r t
 
-abbrev pub finds : Machine → Machine → ℕ → Process → Running → Seen ℕ → Option (Finding ℕ) → Machine
-finds m n p q r seen None = with_event m (misfit p)
-finds m n p q r seen (Some f) = turns m n p q (noting r n.steps f) (turn_of code r.kind (recorded r.operands f) r.phase seen)
-
-abbrev pub accesses : Machine → ℕ → Process → Running → Option (Line × Access ℕ) → Machine
-accesses m p q r None = with_event m (misfit p)
-accesses m p q r (Some x) = finds m (after_access (with_step m) x.1) p q r (seen_by m x.1) (finding_of_lem r.phase (seen_by m x.1))
-
-abbrev pub goes : Machine → ℕ → Process → Running → Machine
-goes m p q r = accesses m p q r (next_access_lem code (record { process = p; tag = q.tag }) r.kind r.operands r.new r.phase)
-
-abbrev pub is_attempt : Phase ℕ → Bool
-is_attempt Idle = false
-is_attempt (Reading read) = false
-is_attempt Attempt = true
-is_attempt (Linking read) = false
-is_attempt (Save kept) = false
-is_attempt (Mark kept) = false
-is_attempt (Note kept) = false
-is_attempt (FirstId operand) = false
-is_attempt (FirstCollect operand read) = false
-is_attempt (SecondCollect operand read) = false
-is_attempt (SecondId operand) = false
-is_attempt Swap = false
-
 abbrev pub raised : Process → Process
 raised q = record { tag = suc q.tag; link = q.link; running = q.running }
-
--- a fresh attempt raises the tag first, and is refused with 14 where the tag is not below the greatest
-abbrev pub steps_in : Machine → ℕ → Process → Option Running → Machine
-steps_in m p q None = with_event m (misfit p)
-steps_in m p q (Some r) =
-    cond (is_attempt r.phase)
-    (cond (nat_lt q.tag m.greatest_tag) (goes m p (raised q) r) (with_event m (refused p 14)))
-    (goes m p q r)
-
-abbrev pub first_phase : OperationKind → Phase ℕ
-first_phase Read = Reading Look
-first_phase Ll = Attempt
-first_phase Sc = Swap
-first_phase Snapshot = FirstId 0
-first_phase Kcss = Attempt
 
 -- starting an SC ends the link
 abbrev pub link_at_start : OperationKind → Option ℕ → Option ℕ
@@ -245,8 +166,8 @@ abbrev pub no_id : TaggedId
 no_id = record { process = 0; tag = 0 }
 
 abbrev pub operands_of : List (ℕ × Option ℕ) → List (Operand ℕ)
-operands_of [] = []
-operands_of (x ∷ rest) = record { location = x.0; expected = x.1; first = None; second = None; first_id = no_id; second_id = no_id } ∷ operands_of rest
+operands_of given =
+    map (λ x. record { location = x.0; expected = x.1; first = None; second = None; first_id = no_id; second_id = no_id }) given
 
 -- a process that runs an operation starts no other
 abbrev pub starts : Machine → ℕ → Process → OperationKind → List (ℕ × Option ℕ) → Option ℕ → Option Running → Machine
@@ -257,10 +178,38 @@ starts m p q kind given new None = with_process (with_start m) p (record {
 })
 starts m p q kind given new (Some r) = with_event m (misfit p)
 
-abbrev pub obey : Machine → Command → Machine
-obey m (start p kind given new) = starts m p (m.processes p) kind given new (m.processes p).running
-obey m (step p) = steps_in m p (m.processes p) (m.processes p).running
+-- What a line records in an operand, and where it leads. The accesses are always the true ones.
+pub record Lines : Type 0 where
+  pub finding : Phase ℕ → Seen ℕ → Option (Finding ℕ)
+  pub turn : OperationKind → List (Operand ℕ) → Phase ℕ → Seen ℕ → Option (Turn ℕ)
 
-abbrev pub run : Machine → List Command → Machine
-run m [] = m
-run m (c ∷ rest) = run (obey m c) rest
+abbrev pub true_lines : Lines
+true_lines = record { finding = finding_of; turn = turn_of code }
+
+module _ (lines : Lines) where
+  abbrev pub finds : Machine → Machine → ℕ → Process → Running → Seen ℕ → Option (Finding ℕ) → Machine
+  finds m n p q r seen None = with_event m (misfit p)
+  finds m n p q r seen (Some f) = turns m n p q (noting r n.steps f) (lines.turn r.kind (recorded f r.operands) r.phase seen)
+
+  abbrev pub accesses : Machine → ℕ → Process → Running → Option (Line × Access ℕ) → Machine
+  accesses m p q r None = with_event m (misfit p)
+  accesses m p q r (Some x) = finds m (after_access (with_step m) x.1) p q r (seen_by m x.1) (lines.finding r.phase (seen_by m x.1))
+
+  abbrev pub goes : Machine → ℕ → Process → Running → Machine
+  goes m p q r = accesses m p q r (next_access code (record { process = p; tag = q.tag }) r.kind r.operands r.new r.phase)
+
+  -- a fresh attempt raises the tag first, and is refused with 14 where the tag is not below the greatest
+  abbrev pub steps_in : Machine → ℕ → Process → Option Running → Machine
+  steps_in m p q None = with_event m (misfit p)
+  steps_in m p q (Some r) =
+      cond (is_attempt r.phase)
+      (cond (nat_lt q.tag m.greatest_tag) (goes m p (raised q) r) (with_event m (refused p 14)))
+      (goes m p q r)
+
+  abbrev pub obey : Machine → Command → Machine
+  obey m (start p kind given new) = starts m p (m.processes p) kind given new (m.processes p).running
+  obey m (step p) = steps_in m p (m.processes p) (m.processes p).running
+
+  abbrev pub run : Machine → List Command → Machine
+  run m [] = m
+  run m (c ∷ rest) = run (obey m c) rest

@@ -3,7 +3,7 @@
 use Rattle.std.specs.Prelude.{◌≡◌, ℕ, zero, suc, cond, List, [], ◌∷◌, Some, None, ◌==◌}
 use Rattle.memory.specs.declared.cell.Cell.TheVariants.{Value, Id}
 use Rattle.operation.specs.declared.kind.OperationKind.TheVariants.{Read, Ll, Sc, Snapshot, Kcss}
-use Rattle.sample_runs.specs.Model.{Machine, Command, no_id, run}
+use Rattle.sample_runs.specs.Model.{Machine, Command, no_id, true_lines, run}
 use Rattle.sample_runs.specs.Model.Event.{ended, refused}
 use Rattle.sample_runs.specs.Model.Outcome.{gave, said_yes, said_no}
 use Rattle.sample_runs.specs.Model.Command.{start, step}
@@ -43,7 +43,7 @@ abbrev pub snapshot : Command
 snapshot = start 0 Snapshot ((0, None) ∷ (1, None) ∷ []) None
 
 abbrev pub ran : List Command → Machine
-ran script = run (opening 1000) script
+ran script = run true_lines (opening 1000) script
 
 -- both values are as expected: yes, and location 0 then holds the new value
 abbrev pub KcssYes : Type 0
@@ -82,7 +82,7 @@ KcssAgain = (ran (kcss 5 7 ∷ steps_of 0 6 (read 1 ∷ steps_of 1 5 (steps_of 0
 
 -- the greatest tag is 1: a second attempt is refused
 abbrev pub TagsSpent : Type 0
-TagsSpent = (run (opening 1) (ll ∷ steps_of 0 4 (sc ∷ step 0 ∷ ll ∷ step 0 ∷ []))).trace
+TagsSpent = (run true_lines (opening 1) (ll ∷ steps_of 0 4 (sc ∷ step 0 ∷ ll ∷ step 0 ∷ []))).trace
     ≡ ended 1 0 (gave (Some 5 ∷ [])) 1 3 4 ∷ ended 2 0 said_yes 5 5 5 ∷ refused 0 14 ∷ []
 
 pub record AllSamples : Type 0 where

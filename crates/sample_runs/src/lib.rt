@@ -5,8 +5,6 @@
 ghost use Rattle.sample_runs.specs.Samples.{AllSamples};
 
 // Every sample run ends as written.
-pub fn samples_hold() -> u8
+pub fn samples_hold()
     ensures { AllSamples }
-{
-    0
-}
+{}

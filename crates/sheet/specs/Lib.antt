@@ -6,3 +6,4 @@ pub use Rattle.sheet_format.specs.Parts
 pub use Rattle.sheet_format.specs.Reading
 pub use Rattle.sheet_format.specs.RoundTrip
 pub use Rattle.sheet_format.specs.Writing
+pub use Rattle.sheet_format.specs.Words

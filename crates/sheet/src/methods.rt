@@ -32,18 +32,18 @@ pub trait SheetBytes: Sized {
 }
 
 impl<V: ValueKind> SheetBytes for Sheet<V> {
-    ghost reads = { λ bytes r. Reads parts_of r (read_answer V.decoded bytes V.number) };
+    ghost reads = { λ bytes r. Reads parts_of r (read_answer V.decoded bytes V.KIND) };
 
     ghost writes = { λ sheet room. write_answer (parts_of sheet) room };
 
-    ghost leaves = { λ sheet out. write_after (parts_of sheet) V.coded V.number out };
+    ghost leaves = { λ sheet out. write_after (parts_of sheet) V.coded V.KIND out };
 
     // The sheet that the bytes hold, or why they hold none. Writing the sheet gives the bytes back. Memory can
     // be wanting only once the header was found right and the first code gave a value.
     fn read(heap: Global, bytes: &[u8]) -> Result<Sheet<V>, ReadError>
-        ensures answer { Reads parts_of result (read_answer V.decoded bytes.now V.number) }
-        ensures memory { NeedsMemory result (Keeps V.decoded bytes.now V.number) }
-        ensures returns { IfOk result (λ sheet. GivesBack V.coded V.number (parts_of sheet) bytes.now) }
+        ensures answer { Reads parts_of result (read_answer V.decoded bytes.now V.KIND) }
+        ensures memory { NeedsMemory result (Keeps V.decoded bytes.now V.KIND) }
+        ensures returns { IfOk result (λ sheet. GivesBack V.coded V.KIND (parts_of sheet) bytes.now) }
     {
         sheet_reader::read(heap, bytes)
     }
@@ -52,8 +52,8 @@ impl<V: ValueKind> SheetBytes for Sheet<V> {
     // sheet back.
     fn write(&self, out: &mut [u8]) -> Result<usize, SheetFault>
         ensures answer { result ≡ write_answer (parts_of self.now) (length out.old) }
-        ensures after { out.new ≡ write_after (parts_of self.now) V.coded V.number out.old }
-        ensures returns { IfOk result (λ n. read_answer V.decoded (take n out.new) V.number ≡ Ok (parts_of self.now)) }
+        ensures after { out.new ≡ write_after (parts_of self.now) V.coded V.KIND out.old }
+        ensures returns { IfOk result (λ n. read_answer V.decoded (take n out.new) V.KIND ≡ Ok (parts_of self.now)) }
     {
         sheet_writer::write(self, out)
     }

@@ -1,11 +1,12 @@
 -- Numbers as bytes: what stands at a place of a list of bytes, as a number and as bytes.
-use Rattle.std.proofs.Common.{◌≡◌, ℕ, zero, suc, ◌+◌, ◌*◌, ◌/◌, ◌%◌, ◌^◌, ◌<◌, ◌≤◌, List, ◌∷◌, ◌++◌, length, get_or, drop, sym, refl, ap, ◌∙◌, add-zero, arith, Fits}
+use Rattle.std.proofs.Common.{w16, w32, w64, take, ◌≡◌, ℕ, zero, suc, ◌+◌, ◌*◌, ◌/◌, ◌%◌, ◌^◌, ◌<◌, ◌≤◌, List, ◌∷◌, ◌++◌, length, get_or, drop, sym, refl, ap, ◌∙◌, add-zero, arith, Fits}
 use native.Mathlib.Nat.{pow-succ'}
 use mir.Facts.{Fits-lt-pow}
 use mir.Syntax.{Width}
 use mir.Val.{bits}
 use Rattle.std.proofs.ByRecursion.{All-get_or, All-from_get_or}
-use Rattle.std.proofs.lemmas.List.{append_assoc, drop-drop, drop_at, drop_more, get_or-drop}
+use Rattle.std.proofs.lemmas.List.{append_assoc, drop-drop, drop_at, drop_more, get_or-drop, get_or-take}
+use Rattle.std.specs.Int.{from_le_bytes}
 use Rattle.sheet_format.specs.Bytes.{field, bytes_of, AllBelow}
 
 pub bytes_length : (w n : ℕ) → length (bytes_of w n) ≡ w
@@ -67,17 +68,34 @@ field_fits bytes at (suc w) h k =
     let r : field bytes (at + 1) w < 256 ^ w = field_fits bytes (at + 1) w h (omega arith) in
     rw (pow-succ' 256 w) (omega arith)
 
--- two bytes, and four
-pub field_two : (bytes : List ℕ) (at : ℕ) → field bytes at 2 ≡ get_or bytes at 0 + get_or bytes (at + 1) 0 * 256
+-- the same bytes are the same number
+pub field_same : (xs ys : List ℕ) (i j w : ℕ) → ((k : ℕ) → k < w → get_or xs (i + k) 0 ≡ get_or ys (j + k) 0) → field xs i w ≡ field ys j w
 unfolding field
-field_two bytes at = omega arith
+field_same xs ys i j zero h = refl
+field_same xs ys i j (suc w) h =
+    let first : get_or xs i 0 ≡ get_or ys j 0 = ap (λ k. get_or xs k 0) (sym (add-zero i)) ∙ h 0 (omega arith) ∙ ap (λ k. get_or ys k 0) (add-zero j) in
+    let rest = field_same xs ys (i + 1) (j + 1) w (λ k l.
+    let a : i + 1 + k ≡ i + (k + 1) = omega arith in
+    let b : j + 1 + k ≡ j + (k + 1) = omega arith in
+    ap (λ n. get_or xs n 0) a ∙ h (k + 1) (omega arith) ∙ ap (λ n. get_or ys n 0) (sym b)) in
+    omega (arith, first, rest)
 
-pub field_four : (bytes : List ℕ) (at : ℕ) → field bytes at 4 ≡ get_or bytes at 0 + get_or bytes (at + 1) 0 * 256 + get_or bytes (at + 2) 0 * 65536 + get_or bytes (at + 3) 0 * 16777216
+-- the number in bytes that were cut out of others
+pub field_cut : (bytes cut : List ℕ) (at w : ℕ) → cut ≡ take w (drop at bytes) → field cut 0 w ≡ field bytes at w
+field_cut bytes cut at w e = field_same cut bytes 0 at w (λ k l. let place : 0 + k ≡ k = omega arith in ap (λ n. get_or cut n 0) place ∙ ap (λ x. get_or x k 0) e ∙ get_or-take w (drop at bytes) k 0 l ∙ get_or-drop at bytes k 0)
+
+-- two, four and eight bytes, as the library reads them
+pub field_two : (bytes : List ℕ) → from_le_bytes w16 bytes ≡ field bytes 0 2
 unfolding field
-field_four bytes at =
-    let third : at + 1 + 1 ≡ at + 2 = omega arith in
-    let fourth : at + 1 + 1 + 1 ≡ at + 3 = omega arith in
-    omega (arith, ap (λ k. get_or bytes k 0) third, ap (λ k. get_or bytes k 0) fourth)
+field_two bytes = omega arith
+
+pub field_four : (bytes : List ℕ) → from_le_bytes w32 bytes ≡ field bytes 0 4
+unfolding field
+field_four bytes = omega arith
+
+pub field_eight : (bytes : List ℕ) → from_le_bytes w64 bytes ≡ field bytes 0 8
+unfolding field
+field_eight bytes = omega arith
 
 -- the elements of a slice lie below what their width can hold
 pub all_below : {w : Width} (xs : List ℕ) → ((i : ℕ) → Fits w (get_or xs i 0)) → AllBelow (2 ^ bits w) xs

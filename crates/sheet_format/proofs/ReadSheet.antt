@@ -5,7 +5,7 @@ use Rattle.std.proofs.lemmas.List.{append-nil, take_at}
 use Rattle.std.proofs.lemmas.Bool.{and_from, le-leb, eq-eqb}
 use Rattle.sheet_format.specs.Bytes.{field, bytes_of, overwritten}
 use Rattle.sheet_format.specs.Parts.{Parts, AllFitting}
-use Rattle.sheet_format.specs.Format.{sizes, operations_at, script_at, total, item_byte_lem, op_bytes, value_bytes, header_bytes, sheet_bytes}
+use Rattle.sheet_format.specs.Format.{sizes, operations_at, script_at, total, item_byte, op_bytes, value_bytes, header_bytes, sheet_bytes}
 use Rattle.sheet_format.specs.Reading.{starts, header_answer, values_answer, operations_answer, script_answer, body_answer, read_answer}
 use Rattle.sheet_format.specs.Writing.{write_answer, write_after}
 use Rattle.sheet_format.proofs.Fields.{bytes_length, next, peel, field_read}
@@ -80,7 +80,7 @@ module _ {V : Type 0} (code : V → ℕ) (decode : ℕ → Option V) (number : �
   sheet_read p bytes f d e =
       let vs : List ℕ = flat_map (value_bytes code) p.initial in
       let os : List ℕ = flat_map (op_bytes code) p.operations in
-      let is : List ℕ = map item_byte_lem p.script in
+      let is : List ℕ = map item_byte p.script in
       let size : length bytes ≡ total p = ap length e ∙ sheet_length code number p in
       let few = ends (operations_at p) 4096 (script_at p) p.operations d.operations in
       let h = headed code number p bytes (vs ++ (os ++ is)) (omega (arith, d.locations)) (omega (arith, d.processes)) (omega (arith, d.items)) (omega (arith, d.locations, d.items)) e in

@@ -4,7 +4,7 @@ use Rattle.std.specs.List.{flat_map}
 use Rattle.std.proofs.lemmas.List.{length-append, length-map}
 use Rattle.sheet_format.specs.Bytes.{bytes_of}
 use Rattle.sheet_format.specs.Parts.{Act, read, ll, sc, snapshot, kcss, Op, Parts}
-use Rattle.sheet_format.specs.Format.{act_count, size_by, sizes, total, operand_bytes, item_byte_lem, location_bytes, expected_bytes, operands_bytes, new_code_lem, op_bytes, value_bytes, header_bytes, sheet_bytes}
+use Rattle.sheet_format.specs.Format.{act_count, size_by, sizes, total, operand_bytes, item_byte, location_bytes, expected_bytes, operands_bytes, new_code, op_bytes, value_bytes, header_bytes, sheet_bytes}
 use Rattle.sheet_format.proofs.Fields.{bytes_length}
 
 pub joined_length : {X : Type 0} (f : X → List ℕ) (k : ℕ) → ((x : X) → length (f x) ≡ k) → (xs : List X) → length (flat_map f xs) ≡ k * length xs
@@ -24,7 +24,7 @@ module _ {V : Type 0} (code : V → ℕ) where
 
   pub op_length : (o : Op V) → length (op_bytes code o) ≡ size_by (act_count o.act)
   unfolding op_bytes
-  op_length o = omega (arith, length-append (bytes_of 8 (new_code_lem code o.act)) (operands_bytes code o.act), bytes_length 8 (new_code_lem code o.act), operands_length o.act)
+  op_length o = omega (arith, length-append (bytes_of 8 (new_code code o.act)) (operands_bytes code o.act), bytes_length 8 (new_code code o.act), operands_length o.act)
 
   pub ops_length : (os : List (Op V)) → length (flat_map (op_bytes code) os) ≡ sizes os
   ops_length [] = refl
@@ -39,7 +39,7 @@ module _ {V : Type 0} (code : V → ℕ) where
   sheet_length number p =
       let vs = flat_map (value_bytes code) p.initial in
       let os = flat_map (op_bytes code) p.operations in
-      let is = map item_byte_lem p.script in
+      let is = map item_byte p.script in
       omega (
         arith,
         length-append (header_bytes code number p) (vs ++ (os ++ is)),
@@ -48,5 +48,5 @@ module _ {V : Type 0} (code : V → ℕ) where
         header_length number p,
         joined_length (value_bytes code) 8 (λ v. bytes_length 8 (code v)) p.initial,
         ops_length p.operations,
-        length-map p.script item_byte_lem,
+        length-map p.script item_byte,
       )

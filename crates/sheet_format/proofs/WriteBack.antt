@@ -10,19 +10,19 @@ use Rattle.sheet_format.specs.declared.parts.ScriptItem.{ScriptItem}
 use Rattle.sheet_format.specs.declared.parts.ScriptItem.TheVariants.{Start, Step}
 use Rattle.sheet_format.specs.Bytes.{field, bytes_of, AllBelow}
 use Rattle.sheet_format.specs.declared.fault.SheetFault.{SheetFault}
-use Rattle.sheet_format.specs.Faults.{fault, followed}
-use Rattle.sheet_format.specs.Format.{operand_bytes, item_byte_lem, location_bytes, expected_bytes, value_bytes}
-use Rattle.sheet_format.specs.Reading.{item_of, unused, locations_from, script_answer, value_answer, values_answer, operand_answer, operands_answer}
-use Rattle.sheet_format.specs.Writing.{writable, script_end_lem}
+use Rattle.sheet_format.specs.Faults.{fault}
+use Rattle.sheet_format.specs.Format.{operand_bytes, item_byte, location_bytes, expected_bytes, value_bytes}
+use Rattle.sheet_format.specs.Reading.{item_of, unused, locations_from, row_answer, script_answer, value_answer, values_answer, operand_answer, operands_answer}
+use Rattle.sheet_format.specs.Writing.{writable, script_end}
 use Rattle.sheet_format.proofs.Fields.{field_back}
 use Rattle.sheet_format.proofs.Steps.{ok_same, pass, some_ok, split, begun}
 
-item_by : (b : ℕ) (x y : Bool) (i : ScriptItem) → ltb b 32 ≡ x → eqb b 255 ≡ y → cond x (Some (Step b)) (cond y (Some Start) None) ≡ Some i → (item_byte_lem i ≡ b) × (writable i ≡ true)
-item_by b true y i p q e = let s : Step b ≡ i = cc in subst (λ j. (item_byte_lem j ≡ b) × (writable j ≡ true)) s (refl, p)
-item_by b false true i p q e = let s : Start ≡ i = cc in subst (λ j. (item_byte_lem j ≡ b) × (writable j ≡ true)) s (sym (eqb-true b 255 q), refl)
+item_by : (b : ℕ) (x y : Bool) (i : ScriptItem) → ltb b 32 ≡ x → eqb b 255 ≡ y → cond x (Some (Step b)) (cond y (Some Start) None) ≡ Some i → (item_byte i ≡ b) × (writable i ≡ true)
+item_by b true y i p q e = let s : Step b ≡ i = cc in subst (λ j. (item_byte j ≡ b) × (writable j ≡ true)) s (refl, p)
+item_by b false true i p q e = let s : Start ≡ i = cc in subst (λ j. (item_byte j ≡ b) × (writable j ≡ true)) s (sym (eqb-true b 255 q), refl)
 item_by b false false i p q e = let z : ◌≡◌ {A = ℕ} 0 1 = cc in absurd (omega arith)
 
-item_back : (b : ℕ) (i : ScriptItem) → item_of b ≡ Some i → (item_byte_lem i ≡ b) × (writable i ≡ true)
+item_back : (b : ℕ) (i : ScriptItem) → item_of b ≡ Some i → (item_byte i ≡ b) × (writable i ≡ true)
 item_back b i e = item_by b (ltb b 32) (eqb b 255) i refl refl e
 
 module _ (bytes : List ℕ) where
@@ -39,11 +39,11 @@ module _ (bytes : List ℕ) where
 
   pub record Scripted (at n : ℕ) (items : List ScriptItem) : Type 0 where
     pub count : length items ≡ n
-    pub stands : drop at bytes ≡ map item_byte_lem items ++ drop (at + n) bytes
-    pub laid : script_end_lem at items ≡ Ok (at + n)
+    pub stands : drop at bytes ≡ map item_byte items ++ drop (at + n) bytes
+    pub laid : script_end at items ≡ Ok (at + n)
 
   pub script_back : (at n : ℕ) (items : List ScriptItem) → at + n ≤ length bytes → script_answer bytes at n ≡ Ok items → Scripted at n items
-  unfolding script_answer script_end_lem
+  unfolding row_answer script_end
   script_back at zero items h e =
       subst (Scripted at 0) (ok_same [] items e) (record { count = refl; stands = nothing at (at + 0) (add-zero at); laid = ap Ok (sym (add-zero at)) })
   script_back at (suc n) items h e =
@@ -53,23 +53,22 @@ module _ (bytes : List ℕ) where
       let place : at + 1 + n ≡ at + suc n = omega arith in
       subst (Scripted at (suc n)) (sym s.whole) (record {
         count = ap suc ih.count;
-        stands = drop_more bytes at 0 (omega arith) ∙ (λ k. sym i.0 k ∷ up_to (at + 1) (at + 1 + n) (at + suc n) (map item_byte_lem s.others) place ih.stands k);
-        laid = pass (writable s.first) (fault WrongScript at) (script_end_lem (at + 1) s.others) _ i.1 (ih.laid ∙ ap Ok place);
+        stands = drop_more bytes at 0 (omega arith) ∙ (λ k. sym i.0 k ∷ up_to (at + 1) (at + 1 + n) (at + suc n) (map item_byte s.others) place ih.stands k);
+        laid = pass (writable s.first) (fault WrongScript at) (script_end (at + 1) s.others) _ i.1 (ih.laid ∙ ap Ok place);
       })
 
   -- items of one width that were read one after another
-  module _ {X : Type 0} (w : ℕ) (f : X → List ℕ) (one : ℕ → Result X SheetFault) (many : ℕ → ℕ → Result (List X) SheetFault)
-      (none : (at : ℕ) → many at 0 ≡ Ok []) (more : (at n : ℕ) → many at (suc n) ≡ followed (one at) (many (at + w) n))
+  module _ {X : Type 0} (one : ℕ → Result X SheetFault) (w : ℕ) (f : X → List ℕ)
       (back : (at : ℕ) (x : X) → at + w ≤ length bytes → one at ≡ Ok x → drop at bytes ≡ f x ++ drop (at + w) bytes) where
-    Filled : ℕ → ℕ → List X → Type 0
+    abbrev Filled : ℕ → ℕ → List X → Type 0
     Filled at n xs = (length xs ≡ n) × (drop at bytes ≡ flat_map f xs ++ drop (at + w * n) bytes)
 
-    items_back : (at n : ℕ) (xs : List X) → at + w * n ≤ length bytes → many at n ≡ Ok xs → (length xs ≡ n) × (drop at bytes ≡ flat_map f xs ++ drop (at + w * n) bytes)
-    unfolding Filled
-    items_back at zero xs h e = subst (Filled at 0) (ok_same [] xs (sym (none at) ∙ e)) (refl, nothing at (at + w * 0) (omega (arith, mul-zero w)))
+    items_back : (at n : ℕ) (xs : List X) → at + w * n ≤ length bytes → row_answer one w at n ≡ Ok xs → Filled at n xs
+    unfolding row_answer
+    items_back at zero xs h e = subst (Filled at 0) (ok_same [] xs e) (refl, nothing at (at + w * 0) (omega (arith, mul-zero w)))
     items_back at (suc n) xs h e =
         let k : w * suc n ≡ w * n + w = mul-suc w n in
-        let s = split (one at) (many (at + w) n) xs (sym (more at n) ∙ e) in
+        let s = split (one at) (row_answer one w (at + w) n) xs e in
         let ih = items_back (at + w) n s.others (omega arith) s.others_are in
         let place : at + w + w * n ≡ at + w * suc n = omega arith in
         subst (Filled at (suc n)) (sym s.whole) (
@@ -110,8 +109,7 @@ module _ (bytes : List ℕ) where
         value_code at v e = sym (kept (field bytes at 8) v (some_ok (decode (field bytes at 8)) (fault WrongCode at) v e))
 
         pub values_back : (at n : ℕ) (vs : List V) → at + 8 * n ≤ length bytes → values_answer decode bytes at n ≡ Ok vs → (length vs ≡ n) × (drop at bytes ≡ flat_map (value_bytes code) vs ++ drop (at + 8 * n) bytes)
-        unfolding values_answer
-        values_back = items_back 8 (value_bytes code) (value_answer decode bytes) (values_answer decode bytes) (λ at. refl) (λ at n. refl)
+        values_back = items_back (value_answer decode bytes) 8 (value_bytes code)
             (λ at v h e. field_back bytes at 8 all h ∙ ap (λ c. bytes_of 8 c ++ drop (at + 8) bytes) (value_code at v e))
 
         expected_back : (at : ℕ) (o : Operand V) → at + 10 ≤ length bytes → operand_answer decode bytes at ≡ Ok o → drop at bytes ≡ expected_bytes code o ++ drop (at + 10) bytes
@@ -121,5 +119,4 @@ module _ (bytes : List ℕ) where
             operand_back at h ∙ ap (λ c. operand_bytes (field bytes at 2) c ++ drop (at + 10) bytes) (value_code (at + 2) s.value s.first_is) ∙ ap (λ x. expected_bytes code x ++ drop (at + 10) bytes) is
 
         pub operands_back : (at n : ℕ) (os : List (Operand V)) → at + 10 * n ≤ length bytes → operands_answer decode bytes at n ≡ Ok os → (length os ≡ n) × (drop at bytes ≡ flat_map (expected_bytes code) os ++ drop (at + 10 * n) bytes)
-        unfolding operands_answer
-        operands_back = items_back 10 (expected_bytes code) (operand_answer decode bytes) (operands_answer decode bytes) (λ at. refl) (λ at n. refl) expected_back
+        operands_back = items_back (operand_answer decode bytes) 10 (expected_bytes code) expected_back

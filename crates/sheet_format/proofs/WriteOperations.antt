@@ -11,11 +11,11 @@ use Rattle.sheet_format.specs.declared.fault.SheetFault.{SheetFault}
 use Rattle.sheet_format.specs.declared.head.OperationHead.{OperationHead}
 use Rattle.sheet_format.specs.Bytes.{field, bytes_of, AllBelow}
 use Rattle.sheet_format.specs.Faults.{fault, followed}
-use Rattle.operation.specs.Kinds.{kind_number, kind_of, counted, takes_new_lem, takes_expected_lem}
+use Rattle.operation.specs.Kinds.{kind_number, kind_of, counted, takes_new, takes_expected}
 use Rattle.sheet_format.specs.Parts.{Act, sc, kcss, Op}
-use Rattle.sheet_format.specs.Format.{act_kind, act_count, size_by, location_bytes, new_code_lem, operands_bytes, op_bytes}
-use Rattle.sheet_format.specs.Reading.{unused, head_fits_lem, head_by, head_answer, value_answer, operands_answer, action_by, action_answer, operation_answer, operations_answer}
-use Rattle.sheet_format.specs.Writing.{operations_end_lem}
+use Rattle.sheet_format.specs.Format.{act_kind, act_count, size_by, location_bytes, new_code, operands_bytes, op_bytes}
+use Rattle.sheet_format.specs.Reading.{unused, head_fits, head_by, head_answer, value_answer, operands_answer, action_by, action_answer, operation_answer, operations_answer}
+use Rattle.sheet_format.specs.Writing.{operations_end}
 use Rattle.sheet_format.proofs.Fields.{field_back}
 use Rattle.sheet_format.proofs.Steps.{never_ok, ok_same, pass, passed, split, begun}
 use Rattle.sheet_format.proofs.WriteBack.{join, up_to, nothing, location_back, locations_back, value_code, operands_back}
@@ -37,18 +37,18 @@ module _ (bytes : List ℕ) where
     pub counts : counted h.kind h.count ≡ true
     pub zero_byte : get_or bytes (at + 3) 0 ≡ 0
     pub inside : at + size_by h.count ≤ end
-    pub new : (takes_new_lem h.kind || eqb (field bytes (at + 4) 8) 0) ≡ true
-    pub expected : (takes_expected_lem h.kind || unused bytes (at + 12) h.count) ≡ true
+    pub new : (takes_new h.kind || eqb (field bytes (at + 4) 8) 0) ≡ true
+    pub expected : (takes_expected h.kind || unused bytes (at + 12) h.count) ≡ true
 
   head_by_back : (at end : ℕ) (o : Option OperationKind) (h : OperationHead) → kind_of (get_or bytes at 0) ≡ o → at + 12 ≤ end → head_by bytes at end o ≡ Ok h → Headed at end h
   head_by_back at end None h k r e = never_ok (fault WrongOperation at) h e
   head_by_back at end (Some kind) h k r e =
       let n : ℕ = get_or bytes (at + 2) 0 in
-      let p = passed (head_fits_lem bytes at end kind) (fault WrongOperation at) _ h e in
+      let p = passed (head_fits bytes at end kind) (fault WrongOperation at) _ h e in
       let a = and_parts (counted kind n) _ p.0 in
       let b = and_parts (eqb (get_or bytes (at + 3) 0) 0) _ a.1 in
       let c = and_parts (leb (at + size_by n) end) _ b.1 in
-      let d = and_parts (takes_new_lem kind || eqb (field bytes (at + 4) 8) 0) (takes_expected_lem kind || unused bytes (at + 12) n) c.1 in
+      let d = and_parts (takes_new kind || eqb (field bytes (at + 4) 8) 0) (takes_expected kind || unused bytes (at + 12) n) c.1 in
       subst (Headed at end) (ok_same _ h p.1) (record {
         room = r;
         kind_byte = kind_back (get_or bytes at 0) kind k;
@@ -72,7 +72,7 @@ module _ (bytes : List ℕ) where
     record Acted (at : ℕ) (kind : OperationKind) (count : ℕ) (a : Act V) : Type 0 where
       kind_is : act_kind a ≡ kind
       count_is : act_count a ≡ count
-      new : field bytes (at + 4) 8 ≡ new_code_lem code a
+      new : field bytes (at + 4) 8 ≡ new_code code a
       operands : drop (at + 12) bytes ≡ operands_bytes code a ++ drop (at + size_by count) bytes
 
     -- what an operation that was read says of its bytes
@@ -84,7 +84,7 @@ module _ (bytes : List ℕ) where
 
     -- what operations that were read up to a place say of their bytes
     pub record Listed (end left at : ℕ) (ops : List (Op V)) : Type 0 where
-      pub laid : operations_end_lem at left ops ≡ Ok end
+      pub laid : operations_end at left ops ≡ Ok end
       pub stands : drop at bytes ≡ flat_map (op_bytes code) ops ++ drop end bytes
 
   module _ (all : AllBelow 256 bytes) {V : Type 0} (code : V → ℕ) where
@@ -100,7 +100,7 @@ module _ (bytes : List ℕ) where
 
     module _ (decode : ℕ → Option V) (kept : (c : ℕ) (v : V) → decode c ≡ Some v → code v ≡ c) where
       action_back : (at : ℕ) (kind : OperationKind) (count : ℕ) (a : Act V) → at + size_by count ≤ length bytes → counted kind count ≡ true
-          → (takes_new_lem kind || eqb (field bytes (at + 4) 8) 0) ≡ true → (takes_expected_lem kind || unused bytes (at + 12) count) ≡ true → action_by decode bytes at kind count ≡ Ok a → Acted code at kind count a
+          → (takes_new kind || eqb (field bytes (at + 4) 8) 0) ≡ true → (takes_expected kind || unused bytes (at + 12) count) ≡ true → action_by decode bytes at kind count ≡ Ok a → Acted code at kind count a
       action_back at Read count a h c n u e =
           let one = one_back at count h c u in
           subst (Acted code at Read count) (ok_same _ a e) (record { kind_is = refl; count_is = one.0; new = eqb-true (field bytes (at + 4) 8) 0 n; operands = one.1 })
@@ -132,7 +132,7 @@ module _ (bytes : List ℕ) where
           let p3 : at + 2 + 1 ≡ at + 3 = omega arith in
           let p4 : at + 3 + 1 ≡ at + 4 = omega arith in
           let p12 : at + 4 + 8 ≡ at + 12 = omega arith in
-          let code-bytes : List ℕ = bytes_of 8 (new_code_lem code a) in
+          let code-bytes : List ℕ = bytes_of 8 (new_code code a) in
           let last : drop (at + 4) bytes ≡ (code-bytes ++ operands_bytes code a) ++ rest =
           join bytes (at + 4) (at + 12) (at + size_by h.count) code-bytes (operands_bytes code a)
           (up_to bytes (at + 4) (at + 4 + 8) (at + 12) code-bytes p12 (field_back bytes (at + 4) 8 all (omega arith) ∙ ap (λ c. bytes_of 8 c ++ drop (at + 4 + 8) bytes) x.new))
@@ -162,7 +162,7 @@ module _ (bytes : List ℕ) where
           (made at end h t.value l d (action_back at h.kind h.count t.value (omega (arith, d.inside)) d.counts d.new d.expected t.first_is))
 
       listed_none : (end left at : ℕ) (ops : List (Op V)) → at ≤ end → leb end at ≡ true → ◌≡◌ {A = Result (List (Op V)) SheetFault} (Ok []) (Ok ops) → Listed code end left at ops
-      unfolding operations_end_lem
+      unfolding operations_end
       listed_none end left at ops h k e =
           let same : at ≡ end = omega (arith, leb-true end at k) in
           subst (Listed code end left at) (ok_same [] ops e) (record { laid = ap Ok same; stands = nothing bytes at end (sym same) })
@@ -170,19 +170,19 @@ module _ (bytes : List ℕ) where
       listed_more : (end left at : ℕ) (ops : List (Op V)) → end ≤ length bytes
           → ((x : ℕ) (os : List (Op V)) → x ≤ end → operations_answer decode bytes end left x ≡ Ok os → Listed code end left x os)
           → followed (operation_answer decode bytes end at) (operations_answer decode bytes end left (at + size_by (get_or bytes (at + 2) 0))) ≡ Ok ops → Listed code end (suc left) at ops
-      unfolding operations_end_lem
+      unfolding operations_end
       listed_more end left at ops l ih e =
           let s = split (operation_answer decode bytes end at) (operations_answer decode bytes end left (at + size_by (get_or bytes (at + 2) 0))) ops e in
           let d = operation_back at end s.first l s.first_is in
           let n : ℕ = act_count s.first.act in
           let more = ih (at + size_by n) s.others d.inside (ap (λ x. operations_answer decode bytes end left (at + size_by x)) (sym d.count_byte) ∙ s.others_are) in
           subst (Listed code end (suc left) at) (sym s.whole) (record {
-            laid = pass (counted (act_kind s.first.act) n) (fault WrongOperation at) (operations_end_lem (at + size_by n) left s.others) _ d.counts more.laid;
+            laid = pass (counted (act_kind s.first.act) n) (fault WrongOperation at) (operations_end (at + size_by n) left s.others) _ d.counts more.laid;
             stands = join bytes at (at + size_by n) end (op_bytes code s.first) (flat_map (op_bytes code) s.others) d.stands more.stands;
           })
 
       pub operations_back : (end left at : ℕ) (ops : List (Op V)) → at ≤ end → end ≤ length bytes → operations_answer decode bytes end left at ≡ Ok ops → Listed code end left at ops
-      unfolding operations_answer operations_end_lem
+      unfolding operations_answer operations_end
       operations_back end zero at ops h l e =
           let p = passed (leb end at) (fault WrongOperation at) (Ok []) ops e in
           listed_none end zero at ops h p.0 p.1

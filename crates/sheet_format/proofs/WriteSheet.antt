@@ -5,9 +5,9 @@ use Rattle.std.proofs.lemmas.List.{append-nil, drop_more, drop_all}
 use Rattle.std.proofs.lemmas.Bool.{eqb-true}
 use Rattle.sheet_format.specs.Bytes.{field, bytes_of, AllBelow}
 use Rattle.sheet_format.specs.Parts.{Parts}
-use Rattle.sheet_format.specs.Format.{operations_at, script_at, total, item_byte_lem, op_bytes, value_bytes, header_bytes, sheet_bytes}
+use Rattle.sheet_format.specs.Format.{operations_at, script_at, total, item_byte, op_bytes, value_bytes, header_bytes, sheet_bytes}
 use Rattle.sheet_format.specs.Reading.{starts, header_answer, values_answer, operations_answer, script_answer, joined_answer, body_answer, read_answer}
-use Rattle.sheet_format.specs.Writing.{operations_end_lem, script_end_lem}
+use Rattle.sheet_format.specs.Writing.{operations_end, script_end}
 use Rattle.sheet_format.specs.RoundTrip.{GivesBack}
 use Rattle.sheet_format.proofs.Fields.{field_back, field_fits}
 use Rattle.sheet_format.proofs.Steps.{ok_same, passed, begun}
@@ -78,8 +78,8 @@ module _ (bytes : List ℕ) where
           locations = omega (arith, q.locations, d.locations);
           processes = omega (arith, q.processes, d.processes);
           items = omega (arith, q.script.count, field_fits bytes 6 2 all (omega (arith, d.long)));
-          operations = ap (λ k. operations_end_lem k 4096 p.operations) operations_place ∙ q.operations.laid ∙ ap Ok (sym script_place);
-          script = ap (λ k. script_end_lem k p.script) script_place ∙ q.script.laid ∙ ap Ok (d.script_place ∙ sym length_is);
+          operations = ap (λ k. operations_end k 4096 p.operations) operations_place ∙ q.operations.laid ∙ ap Ok (sym script_place);
+          script = ap (λ k. script_end k p.script) script_place ∙ q.script.laid ∙ ap Ok (d.script_place ∙ sym length_is);
           begins = q.begins;
         }
 
@@ -88,7 +88,7 @@ module _ (bytes : List ℕ) where
         same_bytes =
             let vs : List ℕ = flat_map (value_bytes code) p.initial in
             let os : List ℕ = flat_map (op_bytes code) p.operations in
-            let is : List ℕ = map item_byte_lem p.script in
+            let is : List ℕ = map item_byte p.script in
             let end : drop (field bytes 16 4) bytes ≡ is =
             q.script.stands ∙ ap (λ l. is ++ l) (drop_all (field bytes 16 4 + field bytes 6 2) bytes (omega (arith, d.script_place))) ∙ append-nil is in
             let middle : drop (field bytes 12 4) bytes ≡ os ++ is = q.operations.stands ∙ ap (λ l. os ++ l) end in

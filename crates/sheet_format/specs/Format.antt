@@ -48,18 +48,18 @@ abbrev pub operand_bytes : ℕ → ℕ → List ℕ
 operand_bytes location code = bytes_of 2 location ++ bytes_of 8 code
 
 -- a byte below 32 steps that process, 255 starts the next operation
-abbrev pub item_byte_lem : ScriptItem → ℕ
-item_byte_lem Start = 255
-item_byte_lem (Step p) = p
+abbrev pub item_byte : ScriptItem → ℕ
+item_byte Start = 255
+item_byte (Step p) = p
 
 module _ {V : Type 0} (code : V → ℕ) where
   -- codes that are not used are zero
-  abbrev pub new_code_lem : Act V → ℕ
-  new_code_lem (read a) = 0
-  new_code_lem (ll a) = 0
-  new_code_lem (sc a v) = code v
-  new_code_lem (snapshot locations) = 0
-  new_code_lem (kcss v operands) = code v
+  abbrev pub new_code : Act V → ℕ
+  new_code (read a) = 0
+  new_code (ll a) = 0
+  new_code (sc a v) = code v
+  new_code (snapshot locations) = 0
+  new_code (kcss v operands) = code v
 
   abbrev pub location_bytes : ℕ → List ℕ
   location_bytes a = operand_bytes a 0
@@ -76,7 +76,7 @@ module _ {V : Type 0} (code : V → ℕ) where
 
   -- kind, process, count, zero, new code, then the operands
   unfoldable pub op_bytes : Op V → List ℕ
-  op_bytes o = kind_number (act_kind o.act) ∷ o.process ∷ act_count o.act ∷ 0 ∷ (bytes_of 8 (new_code_lem o.act) ++ operands_bytes o.act)
+  op_bytes o = kind_number (act_kind o.act) ∷ o.process ∷ act_count o.act ∷ 0 ∷ (bytes_of 8 (new_code o.act) ++ operands_bytes o.act)
 
   abbrev pub value_bytes : V → List ℕ
   value_bytes v = bytes_of 8 (code v)
@@ -87,4 +87,4 @@ module _ {V : Type 0} (code : V → ℕ) where
       ++ (bytes_of 4 24 ++ (bytes_of 4 (operations_at p) ++ (bytes_of 4 (script_at p) ++ bytes_of 4 (total p)))))))
 
   unfoldable pub sheet_bytes : ℕ → Parts V → List ℕ
-  sheet_bytes number p = header_bytes number p ++ (flat_map value_bytes p.initial ++ (flat_map op_bytes p.operations ++ map item_byte_lem p.script))
+  sheet_bytes number p = header_bytes number p ++ (flat_map value_bytes p.initial ++ (flat_map op_bytes p.operations ++ map item_byte p.script))

@@ -1,5 +1,6 @@
 pub mod Bytes
 pub mod Faults
+pub mod Words
 pub mod Parts
 pub mod Format
 pub mod Reading

@@ -12,7 +12,7 @@ use Rattle.sheet_format.specs.declared.parts.Operand.{Operand}
 use Rattle.sheet_format.specs.declared.parts.ScriptItem.{ScriptItem}
 use Rattle.sheet_format.specs.declared.parts.ScriptItem.TheVariants.{Start, Step}
 use Rattle.sheet_format.specs.Bytes.{field}
-use Rattle.operation.specs.Kinds.{kind_of, counted, takes_new_lem, takes_expected_lem}
+use Rattle.operation.specs.Kinds.{kind_of, counted, takes_new, takes_expected}
 use Rattle.sheet_format.specs.Faults.{fault, require, then, followed}
 use Rattle.sheet_format.specs.Parts.{Act, read, ll, sc, snapshot, kcss, Op, Parts}
 use Rattle.sheet_format.specs.Format.{size_by}
@@ -50,6 +50,12 @@ header_by raw long number =
     (require (raw.script + raw.items == long && nat_le raw.operations raw.script) (fault WrongOffset 16)
     (Ok (record { locations = raw.locations; processes = raw.processes; items = raw.items; operations = raw.operations; script = raw.script })))))))))
 
+-- So many items from `at` on, each in `width` bytes: `one` is what the item at a place gives, and the first
+-- that refuses decides.
+unfoldable pub row_answer : {X : Type 0} → (ℕ → Result X SheetFault) → ℕ → ℕ → ℕ → Result (List X) SheetFault
+row_answer one width at zero = Ok []
+row_answer one width at (suc n) = followed (one at) (row_answer one width (at + width) n)
+
 module _ (bytes : List ℕ) where
   -- where the fields of a header stand
   abbrev pub header_fields : RawHeader
@@ -81,16 +87,16 @@ module _ (bytes : List ℕ) where
 
   -- An operation's head, from `at` on, in a sheet whose script begins at `end`: 23 where the kind is unknown,
   -- the count is not the kind's, the zero byte or an unused code is not zero, or it runs past `end`.
-  abbrev pub head_fits_lem : ℕ → ℕ → OperationKind → Bool
-  head_fits_lem at end kind = counted kind (slice_index bytes (at + 2))
+  abbrev pub head_fits : ℕ → ℕ → OperationKind → Bool
+  head_fits at end kind = counted kind (slice_index bytes (at + 2))
       && (slice_index bytes (at + 3) == 0
       && (nat_le (at + size_by (slice_index bytes (at + 2))) end
-      && ((takes_new_lem kind || field bytes (at + 4) 8 == 0)
-      && (takes_expected_lem kind || unused (at + 12) (slice_index bytes (at + 2))))))
+      && ((takes_new kind || field bytes (at + 4) 8 == 0)
+      && (takes_expected kind || unused (at + 12) (slice_index bytes (at + 2))))))
 
   abbrev pub head_by : ℕ → ℕ → Option OperationKind → Result OperationHead SheetFault
   head_by at end None = Err (fault WrongOperation at)
-  head_by at end (Some kind) = require (head_fits_lem at end kind) (fault WrongOperation at)
+  head_by at end (Some kind) = require (head_fits at end kind) (fault WrongOperation at)
       (Ok (record { kind = kind; process = slice_index bytes (at + 1); count = slice_index bytes (at + 2) }))
 
   unfoldable pub head_answer : ℕ → ℕ → Result OperationHead SheetFault
@@ -100,9 +106,8 @@ module _ (bytes : List ℕ) where
   abbrev pub item_answer : ℕ → Result ScriptItem SheetFault
   item_answer at = ok_or (item_of (slice_index bytes at)) (fault WrongScript at)
 
-  unfoldable pub script_answer : ℕ → ℕ → Result (List ScriptItem) SheetFault
-  script_answer at zero = Ok []
-  script_answer at (suc n) = followed (item_answer at) (script_answer (at + 1) n)
+  abbrev pub script_answer : ℕ → ℕ → Result (List ScriptItem) SheetFault
+  script_answer = row_answer item_answer 1
 
 module _ {V : Type 0} (decode : ℕ → Option V) (bytes : List ℕ) where
   -- the value whose code stands at `at`: 24 where it gives none
@@ -110,17 +115,15 @@ module _ {V : Type 0} (decode : ℕ → Option V) (bytes : List ℕ) where
   value_answer at = ok_or (decode (field bytes at 8)) (fault WrongCode at)
 
   -- so many values from `at` on
-  unfoldable pub values_answer : ℕ → ℕ → Result (List V) SheetFault
-  values_answer at zero = Ok []
-  values_answer at (suc n) = followed (value_answer at) (values_answer (at + 8) n)
+  abbrev pub values_answer : ℕ → ℕ → Result (List V) SheetFault
+  values_answer = row_answer value_answer 8
 
   -- one operand, a location and an expected value, and so many of them
   abbrev pub operand_answer : ℕ → Result (Operand V) SheetFault
   operand_answer at = then (value_answer (at + 2)) (λ v. Ok (record { location = field bytes at 2; expected = v }))
 
-  unfoldable pub operands_answer : ℕ → ℕ → Result (List (Operand V)) SheetFault
-  operands_answer at zero = Ok []
-  operands_answer at (suc n) = followed (operand_answer at) (operands_answer (at + 10) n)
+  abbrev pub operands_answer : ℕ → ℕ → Result (List (Operand V)) SheetFault
+  operands_answer = row_answer operand_answer 10
 
   -- what an operation that starts at `at` is to do
   abbrev pub action_by : ℕ → OperationKind → ℕ → Result (Act V) SheetFault

@@ -13,11 +13,11 @@ use Rattle.sheet_format.specs.Format.{act_kind, act_count, size_by, operations_a
 use Rattle.sheet_format.specs.Reading.{within, starts}
 
 -- where operations that begin at `at` end, if there are at most `left` of them and each has a count of its kind
-unfoldable pub operations_end_lem : {V : Type 0} → ℕ → ℕ → List (Op V) → Result ℕ SheetFault
-operations_end_lem at left [] = Ok at
-operations_end_lem at zero (o ∷ rest) = Err (fault WrongOperation at)
-operations_end_lem at (suc left) (o ∷ rest) = require (counted (act_kind o.act) (act_count o.act)) (fault WrongOperation at)
-    (operations_end_lem (at + size_by (act_count o.act)) left rest)
+unfoldable pub operations_end : {V : Type 0} → ℕ → ℕ → List (Op V) → Result ℕ SheetFault
+operations_end at left [] = Ok at
+operations_end at zero (o ∷ rest) = Err (fault WrongOperation at)
+operations_end at (suc left) (o ∷ rest) = require (counted (act_kind o.act) (act_count o.act)) (fault WrongOperation at)
+    (operations_end (at + size_by (act_count o.act)) left rest)
 
 -- a step of a process from 32 on has no byte
 abbrev pub writable : ScriptItem → Bool
@@ -25,9 +25,9 @@ writable Start = true
 writable (Step p) = nat_lt p 32
 
 -- where a script that begins at `at` ends
-unfoldable pub script_end_lem : ℕ → List ScriptItem → Result ℕ SheetFault
-script_end_lem at [] = Ok at
-script_end_lem at (i ∷ rest) = require (writable i) (fault WrongScript at) (script_end_lem (at + 1) rest)
+unfoldable pub script_end : ℕ → List ScriptItem → Result ℕ SheetFault
+script_end at [] = Ok at
+script_end at (i ∷ rest) = require (writable i) (fault WrongScript at) (script_end (at + 1) rest)
 
 module _ {V : Type 0} (p : Parts V) where
   -- the whole length, or the refusal: 21 for L, P or N, 23 for an operation, 25 for the script
@@ -36,8 +36,8 @@ module _ {V : Type 0} (p : Parts V) where
       require (within 1 256 (length p.initial)) (fault WrongHeader 2)
       (require (within 1 32 p.processes) (fault WrongHeader 4)
       (require (nat_le (length p.script) 65535) (fault WrongHeader 6)
-      (then (operations_end_lem (operations_at p) 4096 p.operations) (λ script_at.
-      then (script_end_lem script_at p.script) (λ total.
+      (then (operations_end (operations_at p) 4096 p.operations) (λ script_at.
+      then (script_end script_at p.script) (λ total.
       require (starts p.script == length p.operations) (fault WrongScript total) (Ok total))))))
 
   -- 26 for an output that is too short, at the length that is needed

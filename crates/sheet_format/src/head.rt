@@ -1,7 +1,7 @@
 // What the first bytes of an operation say, once they are found right.
 use operation::OperationKind;
 
-#[derive(Clone, Copy)]
+#[derive(Clone, Copy, Debug, PartialEq, Eq)]
 pub struct OperationHead {
     pub kind: OperationKind,
     pub process: u8,

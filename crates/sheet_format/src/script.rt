@@ -8,11 +8,8 @@ use crate::parts::ScriptItem;
 pub fn start_count(items: &[ScriptItem]) -> usize
     ensures { result ≡ starts items.now }
 {
-    let mut count = 0;
-    for item in items {
-        if let ScriptItem::Start = item {
-            count += 1;
-        }
-    }
-    count
+    items
+        .iter()
+        .filter(|item| matches!(item, ScriptItem::Start))
+        .count()
 }

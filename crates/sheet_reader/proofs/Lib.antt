@@ -1,8 +1,3 @@
-mod Numbers
 mod Answering
-mod Rows
-mod Exits
-mod Unused
-mod Heads
+mod Row
 mod Gathered
-mod Whole

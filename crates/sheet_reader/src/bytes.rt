@@ -1,25 +1,21 @@
-// Numbers read from bytes, the lowest byte first.
-ghost use Rattle.std.specs.Prelude.{◌≡◌, ◌+◌, ◌^◌, ◌<◌, ◌≤◌, length};
+// Numbers read from bytes, the lowest byte first. The two functions stay apart, since `from_le_bytes` belongs to
+// no trait. A place is `bytes` and `at`, and no struct of both: a contract would say `place.entry.bytes.now` for
+// `bytes.now`, and would still ask for room of its own at each width.
+ghost use Rattle.std.specs.Prelude.{◌≡◌, ◌+◌, ◌≤◌, length};
 ghost use Rattle.sheet_format.specs.Bytes.{field};
 
-// The number in the `width` bytes from `at` on.
-pub(crate) fn number_at(bytes: &[u8], at: usize, width: usize) -> u64
-    requires inside { at + width ≤ length bytes.now }
-    requires narrow { width ≤ 8 }
-    ensures value { result ≡ field bytes.now at width }
-    ensures bound { result < 256 ^ width }
+// The code in the eight bytes from `at` on.
+pub(crate) fn code_at(bytes: &[u8], at: usize) -> u64
+    requires { at + 8 ≤ length bytes.now }
+    ensures { result ≡ field bytes.now at 8 }
 {
-    let mut n = 0;
-    for i in (0..width).rev() {
-        n = 256 * n + bytes[at + i] as u64;
-    }
-    n
+    u64::from_le_bytes(bytes[at..at + 8].try_into().unwrap())
 }
 
-// The two bytes of a location from `at` on.
+// The location in the two bytes from `at` on.
 pub(crate) fn location_at(bytes: &[u8], at: usize) -> u16
-    requires inside { at + 2 ≤ length bytes.now }
+    requires { at + 2 ≤ length bytes.now }
     ensures { result ≡ field bytes.now at 2 }
 {
-    number_at(bytes, at, 2) as u16
+    u16::from_le_bytes(bytes[at..at + 2].try_into().unwrap())
 }

@@ -3,8 +3,8 @@
 #![tactic(auto)]
 
 mod bytes;
-mod read_lists;
 mod read_operation;
+mod rows;
 mod sheet;
 
 pub use sheet::read;

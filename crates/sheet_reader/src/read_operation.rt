@@ -3,10 +3,10 @@ ghost use Rattle.std.specs.Prelude.{◌≡◌, ◌+◌, ◌*◌, ◌≤◌, leng
 ghost use Rattle.sheet_format.specs.Faults.{Reads};
 ghost use Rattle.sheet_format.specs.Format.{size_by};
 ghost use Rattle.sheet_format.specs.Parts.{act_of, op_of};
-ghost use Rattle.sheet_format.specs.Reading.{unused, head_fits_lem, head_answer, action_by, operation_answer};
+ghost use Rattle.sheet_format.specs.Reading.{unused, head_fits, head_answer, action_by, operation_answer};
 
-use crate::bytes::{location_at, number_at};
-use crate::read_lists::{read_locations, read_operands, read_value};
+use crate::bytes::{code_at, location_at};
+use crate::rows::{Locations, Operands, read_row, read_value};
 use operation::OperationKind;
 use sheet_format::{Action, Operation, OperationHead, ReadError, SheetFault, SheetRefusal};
 use std::alloc::Global;
@@ -17,43 +17,36 @@ fn codes_unused(bytes: &[u8], at: usize, count: usize) -> bool
     requires { at + 10 * count ≤ length bytes.now }
     ensures { result ≡ unused bytes.now at count }
 {
-    for i in 0..count {
-        if number_at(bytes, at + 10 * i + 2, 8) != 0 {
-            return false;
-        }
-    }
-    true
+    (0..count).all(|i| code_at(bytes, at + 10 * i + 2) == 0)
 }
 
-// Whether the operation that starts at `at` has a head that suits its kind and ends before `end`.
+// Whether the operation that starts at `at` has a head that suits its kind, and does not run past `end`.
 fn head_fits(bytes: &[u8], at: usize, end: usize, kind: OperationKind) -> bool
     requires short { at + 12 ≤ end }
     requires inside { end ≤ length bytes.now }
-    ensures { result ≡ head_fits_lem bytes.now at end kind }
+    ensures { result ≡ head_fits bytes.now at end kind }
 {
-    let count = bytes[at + 2] as usize;
+    let count = usize::from(bytes[at + 2]);
     kind.counts(count)
         && bytes[at + 3] == 0
         && end - at >= 12 + 10 * count
-        && (kind.takes_new() || number_at(bytes, at + 4, 8) == 0)
+        && (kind.takes_new() || code_at(bytes, at + 4) == 0)
         && (kind.takes_expected() || codes_unused(bytes, at + 12, count))
 }
 
 // The head of the operation that starts at `at`, in a sheet whose script begins at `end`.
+#[tactic(auto, unfolding(sheet_format::specs::Reading::head_answer))]
 fn read_head(bytes: &[u8], at: usize, end: usize) -> Result<OperationHead, SheetFault>
     requires before { at ≤ end }
     requires inside { end ≤ length bytes.now }
     ensures { result ≡ head_answer bytes.now at end }
 {
-    let wrong = SheetFault {
-        refusal: SheetRefusal::WrongOperation,
-        place: at,
-    };
+    let wrong = SheetFault::new(SheetRefusal::WrongOperation, at);
     if end - at < 12 {
         return Err(wrong);
     }
-    match OperationKind::from_number(bytes[at]) {
-        Some(kind) if head_fits(bytes, at, end, kind) => {
+    match OperationKind::try_from(bytes[at]) {
+        Ok(kind) if head_fits(bytes, at, end, kind) => {
             Ok(OperationHead {
                 kind,
                 process: bytes[at + 1],
@@ -75,8 +68,9 @@ fn read_action<V: ValueKind>(
     requires inside { at + size_by head.count ≤ length bytes.now }
     ensures { Reads act_of result (action_by V.decoded bytes.now at head.kind head.count) }
 {
-    let operands_at = at + 12;
-    let location = location_at(bytes, operands_at);
+    let first = at + 12;
+    let count = usize::from(head.count);
+    let location = location_at(bytes, first);
     match head.kind {
         OperationKind::Read => Ok(Action::Read(location)),
         OperationKind::Ll => Ok(Action::Ll(location)),
@@ -85,18 +79,19 @@ fn read_action<V: ValueKind>(
             Ok(Action::Sc { location, new })
         }
         OperationKind::Snapshot => {
-            let locations = read_locations(heap, bytes, operands_at, head.count as usize)?;
+            let locations = read_row::<Locations>(heap, bytes, first, count)?;
             Ok(Action::Snapshot(locations))
         }
         OperationKind::Kcss => {
             let new = read_value(bytes, at + 4)?;
-            let operands = read_operands(heap, bytes, operands_at, head.count as usize)?;
+            let operands = read_row::<Operands<V>>(heap, bytes, first, count)?;
             Ok(Action::Kcss { new, operands })
         }
     }
 }
 
 // The operation that starts at `at`, and where the next one starts.
+#[tactic(auto, unfolding(sheet_format::specs::Reading::operation_answer))]
 pub(crate) fn read_operation<V: ValueKind>(
     heap: Global,
     bytes: &[u8],
@@ -110,11 +105,9 @@ pub(crate) fn read_operation<V: ValueKind>(
 {
     let head = read_head(bytes, at, end)?;
     let action = read_action(heap, bytes, at, head)?;
-    Ok((
-        Operation {
-            process: head.process,
-            action,
-        },
-        at + 12 + 10 * head.count as usize,
-    ))
+    let operation = Operation {
+        process: head.process,
+        action,
+    };
+    Ok((operation, at + 12 + 10 * usize::from(head.count)))
 }

@@ -1,38 +1,40 @@
 // Reading: sheets that are read, and each refusal at its edges.
-use crate::support::{LINKS, NUMBERS, refusal};
+use crate::support::{LINKS, NUMBERS, damaged, refusal};
 use sheet::{Sheet, SheetBytes};
 use std::alloc::{AllocError, Global};
 use std::test::Fail;
 use value::{Link, Number};
 
 #[test]
-fn both_kinds_are_read(rt: HostRuntime) {
-    assert_eq!(rt; refusal::<Number>(rt.alloc(), &NUMBERS), None);
-    assert_eq!(rt; refusal::<Link>(rt.alloc(), &LINKS), None);
-    assert_eq!(rt; refusal::<Link>(rt.alloc(), &NUMBERS), Some((21, 1)));
-    assert_eq!(rt; refusal::<Number>(rt.alloc(), &LINKS), Some((21, 1)));
+fn both_kinds_are_read(rt: HostRuntime) -> Result<(), Fail> {
+    assert_eq!(rt; refusal::<Number>(rt.alloc(), &NUMBERS)?, None);
+    assert_eq!(rt; refusal::<Link>(rt.alloc(), &LINKS)?, None);
+    assert_eq!(rt; refusal::<Link>(rt.alloc(), &NUMBERS)?, Some((21, 1)));
+    assert_eq!(rt; refusal::<Number>(rt.alloc(), &LINKS)?, Some((21, 1)));
+    Ok(())
 }
 
 #[test]
-fn short_and_long_sheets(rt: HostRuntime) {
-    assert_eq!(rt; refusal::<Number>(rt.alloc(), &[]), Some((20, 0)));
+fn short_and_long_sheets(rt: HostRuntime) -> Result<(), Fail> {
+    assert_eq!(rt; refusal::<Number>(rt.alloc(), &[])?, Some((20, 0)));
     assert_eq!(rt;
-        refusal::<Number>(rt.alloc(), &NUMBERS[0..23]),
+        refusal::<Number>(rt.alloc(), &NUMBERS[0..23])?,
         Some((20, 23))
     );
     assert_eq!(rt;
-        refusal::<Number>(rt.alloc(), &NUMBERS[0..24]),
+        refusal::<Number>(rt.alloc(), &NUMBERS[0..24])?,
         Some((20, 24))
     );
     assert_eq!(rt;
-        refusal::<Number>(rt.alloc(), &NUMBERS[0..81]),
+        refusal::<Number>(rt.alloc(), &NUMBERS[0..81])?,
         Some((20, 81))
     );
+    Ok(())
 }
 
 // Every field of the header, of an operation and of the script, one byte at a time.
 #[test]
-fn damaged_numbers(rt: HostRuntime) {
+fn damaged_numbers(rt: HostRuntime) -> Result<(), Fail> {
     let damages = [
         (0, 0, 21, 0),
         (0, 2, 21, 0),
@@ -72,20 +74,18 @@ fn damaged_numbers(rt: HostRuntime) {
         (72, 0, 25, 82),
     ];
     for (at, byte, number, place) in damages {
-        let mut bytes = NUMBERS;
-        if at < 82 {
-            bytes[at] = byte;
-        }
+        let bytes = damaged(NUMBERS, at, byte);
         assert_eq!(rt;
-            refusal::<Number>(rt.alloc(), &bytes),
+            refusal::<Number>(rt.alloc(), &bytes)?,
             Some((number, place))
         );
     }
+    Ok(())
 }
 
 // Code 1 of links, their greatest code, unused codes, and a byte that is not tested.
 #[test]
-fn damaged_links(rt: HostRuntime) {
+fn damaged_links(rt: HostRuntime) -> Result<(), Fail> {
     let damages = [
         (24, 1, 24, 24),
         (26, 2, 24, 24),
@@ -97,24 +97,20 @@ fn damaged_links(rt: HostRuntime) {
         (76, 0, 25, 79),
     ];
     for (at, byte, number, place) in damages {
-        let mut bytes = LINKS;
-        if at < 79 {
-            bytes[at] = byte;
-        }
-        assert_eq!(rt; refusal::<Link>(rt.alloc(), &bytes), Some((number, place)));
+        let bytes = damaged(LINKS, at, byte);
+        assert_eq!(rt; refusal::<Link>(rt.alloc(), &bytes)?, Some((number, place)));
     }
     let mut untested = LINKS;
     untested[33] = 200;
     untested[44] = 255;
-    assert_eq!(rt; refusal::<Link>(rt.alloc(), &untested), None);
+    assert_eq!(rt; refusal::<Link>(rt.alloc(), &untested)?, None);
+    Ok(())
 }
 
 // What was read is what stands there.
 #[test]
 fn parts_are_read(rt: HostRuntime) -> Result<(), Fail> {
-    let sheet = Sheet::<Number>::read(rt.alloc(), &NUMBERS)
-        .ok()
-        .ok_or("refused")?;
+    let sheet = Sheet::<Number>::read(rt.alloc(), &NUMBERS)?;
     assert_eq!(rt; sheet.initial.len(), 2);
     assert_eq!(rt; sheet.processes, 1);
     assert_eq!(rt; sheet.operations.len(), 1);
@@ -127,11 +123,11 @@ fn parts_are_read(rt: HostRuntime) -> Result<(), Fail> {
 // A sheet of one location and one process with so many READs, each started: an operation of 22 bytes each from
 // byte 32 on, then a byte of 255 each.
 fn reads_of(heap: Global, count: u16) -> Result<Vec<u8>, AllocError> {
-    let script = 32 + 22 * count as u32;
+    let script = 32 + 22 * u32::from(count);
     let mut bytes = Vec::new(heap);
     bytes.extend_from_slice(&[1, 1, 1, 0, 1, 0])?;
     bytes.extend_from_slice(&count.to_le_bytes())?;
-    for offset in [24, 32, script, script + count as u32] {
+    for offset in [24, 32, script, script + u32::from(count)] {
         bytes.extend_from_slice(&offset.to_le_bytes())?;
     }
     bytes.extend_from_slice(&[0; 8])?;
@@ -148,9 +144,9 @@ fn reads_of(heap: Global, count: u16) -> Result<Vec<u8>, AllocError> {
 #[test]
 fn operations_past_the_last(rt: HostRuntime) -> Result<(), Fail> {
     let heap = rt.alloc();
-    assert_eq!(rt; refusal::<Number>(heap, &reads_of(heap, 4_096)?), None);
+    assert_eq!(rt; refusal::<Number>(heap, &reads_of(heap, 4_096)?)?, None);
     assert_eq!(rt;
-        refusal::<Number>(heap, &reads_of(heap, 4_097)?),
+        refusal::<Number>(heap, &reads_of(heap, 4_097)?)?,
         Some((23, 90_144))
     );
     Ok(())

@@ -23,10 +23,18 @@ pub const LINKS: [u8; 79] = *b"\
     \xff\x1f\xff";
 
 // The number and the place of the refusal with which reading meets the bytes; none if they are read.
-pub fn refusal<V: ValueKind>(heap: Global, bytes: &[u8]) -> Option<(u8, usize)> {
+pub fn refusal<V: ValueKind>(heap: Global, bytes: &[u8]) -> Result<Option<(u8, usize)>, ReadError> {
     match Sheet::<V>::read(heap, bytes) {
-        Ok(_) => None,
-        Err(ReadError::Fault(fault)) => Some((fault.number(), fault.place)),
-        Err(ReadError::NoMemory) => Some((0, 0)),
+        Ok(_) => Ok(None),
+        Err(ReadError::Fault(fault)) => Ok(Some((fault.number(), fault.place))),
+        Err(error) => Err(error),
     }
+}
+
+// These bytes with one of them changed.
+pub fn damaged<const N: usize>(mut bytes: [u8; N], at: usize, byte: u8) -> [u8; N] {
+    if let Some(changed) = bytes.get_mut(at) {
+        *changed = byte;
+    }
+    bytes
 }

@@ -12,50 +12,34 @@ fn sheet_of(
     processes: u16,
     item: ScriptItem,
 ) -> Result<Sheet<Number>, AllocError> {
-    let mut initial = Vec::new(heap);
-    initial.push(Number { value: 5 })?;
-    let mut operations = Vec::new(heap);
-    operations.push(Operation { process: 0, action })?;
-    let mut script = Vec::new(heap);
-    script.push(ScriptItem::Start)?;
-    script.push(item)?;
     Ok(Sheet {
-        initial,
+        initial: vec![in heap; Number { value: 5 }]?,
         processes,
-        operations,
-        script,
+        operations: vec![in heap; Operation { process: 0, action }]?,
+        script: vec![in heap; ScriptItem::Start, item]?,
     })
 }
 
 // A SNAPSHOT of so many locations.
 fn snapshot(heap: Global, count: u16) -> Result<Action<Number>, AllocError> {
-    let mut locations = Vec::new(heap);
-    for a in 0..count {
-        locations.push(a)?;
-    }
-    Ok(Action::Snapshot(locations))
+    Ok(Action::Snapshot((0..count).collect(heap)?))
 }
 
-// The number and the place of the refusal, or 0 and the length that was written.
-fn written(sheet: &Sheet<Number>, out: &mut [u8]) -> (u8, usize) {
-    match sheet.write(out) {
-        Ok(length) => (0, length),
-        Err(fault) => (fault.number(), fault.place),
-    }
+// The length that was written, or the number and the place of the refusal.
+fn written(sheet: &Sheet<Number>, out: &mut [u8]) -> Result<usize, (u8, usize)> {
+    sheet
+        .write(out)
+        .map_err(|fault| (fault.number(), fault.place))
 }
 
 #[test]
 fn bytes_come_back(rt: HostRuntime) -> Result<(), Fail> {
     let mut out = [170; 100];
-    let numbers = Sheet::<Number>::read(rt.alloc(), &NUMBERS)
-        .ok()
-        .ok_or("refused")?;
-    assert_eq!(rt; written(&numbers, &mut out), (0, 82));
+    let numbers = Sheet::<Number>::read(rt.alloc(), &NUMBERS)?;
+    assert_eq!(rt; written(&numbers, &mut out), Ok(82));
     assert!(rt; out[0..82] == NUMBERS[0..82]);
     assert_eq!(rt; out[82], 170);
-    let links = Sheet::<Link>::read(rt.alloc(), &LINKS)
-        .ok()
-        .ok_or("refused")?;
+    let links = Sheet::<Link>::read(rt.alloc(), &LINKS)?;
     assert_eq!(rt; links.write(&mut out).ok(), Some(79));
     assert!(rt; out[0..79] == LINKS[0..79]);
     Ok(())
@@ -63,11 +47,9 @@ fn bytes_come_back(rt: HostRuntime) -> Result<(), Fail> {
 
 #[test]
 fn short_output_is_untouched(rt: HostRuntime) -> Result<(), Fail> {
-    let numbers = Sheet::<Number>::read(rt.alloc(), &NUMBERS)
-        .ok()
-        .ok_or("refused")?;
+    let numbers = Sheet::<Number>::read(rt.alloc(), &NUMBERS)?;
     let mut out = [170; 81];
-    assert_eq!(rt; written(&numbers, &mut out), (26, 82));
+    assert_eq!(rt; written(&numbers, &mut out), Err((26, 82)));
     assert!(rt; out == [170; 81]);
     Ok(())
 }
@@ -79,48 +61,48 @@ fn counts_and_steps(rt: HostRuntime) -> Result<(), Fail> {
     let step = ScriptItem::Step(31);
     assert_eq!(rt;
         written(&sheet_of(heap, snapshot(heap, 16)?, 32, step)?, &mut out),
-        (0, 206)
+        Ok(206)
     );
     assert_eq!(rt;
         written(&sheet_of(heap, snapshot(heap, 17)?, 32, step)?, &mut out),
-        (23, 32)
+        Err((23, 32))
     );
     assert_eq!(rt;
         written(&sheet_of(heap, snapshot(heap, 0)?, 32, step)?, &mut out),
-        (23, 32)
+        Err((23, 32))
     );
     assert_eq!(rt;
         written(&sheet_of(heap, snapshot(heap, 257)?, 32, step)?, &mut out),
-        (23, 32)
+        Err((23, 32))
     );
     assert_eq!(rt;
         written(&sheet_of(heap, Action::Read(0), 0, step)?, &mut out),
-        (21, 4)
+        Err((21, 4))
     );
     assert_eq!(rt;
         written(&sheet_of(heap, Action::Ll(0), 33, step)?, &mut out),
-        (21, 4)
+        Err((21, 4))
     );
     assert_eq!(rt;
         written(
             &sheet_of(heap, Action::Read(0), 1, ScriptItem::Step(32))?,
             &mut out,
         ),
-        (25, 55)
+        Err((25, 55))
     );
     assert_eq!(rt;
         written(
             &sheet_of(heap, Action::Read(0), 1, ScriptItem::Step(255))?,
             &mut out,
         ),
-        (25, 55)
+        Err((25, 55))
     );
     assert_eq!(rt;
         written(
             &sheet_of(heap, Action::Read(0), 1, ScriptItem::Start)?,
             &mut out,
         ),
-        (25, 56)
+        Err((25, 56))
     );
     Ok(())
 }
@@ -134,9 +116,9 @@ fn many_of_each(rt: HostRuntime) -> Result<(), Fail> {
     for _ in 0..65_533 {
         sheet.script.push(ScriptItem::Step(0))?;
     }
-    assert_eq!(rt; written(&sheet, &mut out), (0, 65_589));
+    assert_eq!(rt; written(&sheet, &mut out), Ok(65_589));
     sheet.script.push(ScriptItem::Step(0))?;
-    assert_eq!(rt; written(&sheet, &mut out), (21, 6));
+    assert_eq!(rt; written(&sheet, &mut out), Err((21, 6)));
     sheet.script.truncate(1);
     for _ in 0..4_095 {
         sheet.operations.push(Operation {
@@ -145,22 +127,22 @@ fn many_of_each(rt: HostRuntime) -> Result<(), Fail> {
         })?;
         sheet.script.push(ScriptItem::Start)?;
     }
-    assert_eq!(rt; written(&sheet, &mut out), (0, 94_240));
+    assert_eq!(rt; written(&sheet, &mut out), Ok(94_240));
     sheet.operations.push(Operation {
         process: 0,
         action: Action::Read(0),
     })?;
     sheet.script.push(ScriptItem::Start)?;
-    assert_eq!(rt; written(&sheet, &mut out), (23, 90_144));
+    assert_eq!(rt; written(&sheet, &mut out), Err((23, 90_144)));
     for _ in 0..255 {
         sheet.initial.push(Number { value: 0 })?;
     }
     sheet.operations.truncate(1);
     sheet.script.truncate(1);
-    assert_eq!(rt; written(&sheet, &mut out), (0, 2_095));
+    assert_eq!(rt; written(&sheet, &mut out), Ok(2_095));
     sheet.initial.push(Number { value: 0 })?;
-    assert_eq!(rt; written(&sheet, &mut out), (21, 2));
+    assert_eq!(rt; written(&sheet, &mut out), Err((21, 2)));
     sheet.initial.clear();
-    assert_eq!(rt; written(&sheet, &mut out), (21, 2));
+    assert_eq!(rt; written(&sheet, &mut out), Err((21, 2)));
     Ok(())
 }

@@ -1,3 +1,4 @@
+mod Bytes
 mod Putting
 mod Made
 mod Layouts

@@ -1,26 +1,27 @@
--- Bytes put into an output from `at` on: the room that they take, what they leave, and where they end.
-use Rattle.std.specs.Prelude.{◌≡◌, ℕ, ◌+◌, ◌<◌, ◌≤◌, List, [], ◌∷◌, length, slice_index_or, slice_set}
-use Rattle.sheet_format.specs.declared.parts.Operation.{Operation}
+-- Bytes put into an output where its next byte goes: the room that they take, and what they leave.
+use Rattle.std.specs.Prelude.{◌≡◌, ℕ, ◌+◌, ◌≤◌, List, ◌++◌, length, take, drop}
 use Rattle.sheet_format.specs.Bytes.{bytes_of}
-use Rattle.sheet_format.specs.Parts.{act_of}
-use Rattle.sheet_format.specs.Format.{act_count}
+use Rattle.sheet_writer.specs.declared.output.Output.{Output}
 
--- an output after bytes were put into it, from `at` on
-unfoldable pub put : List ℕ → ℕ → List ℕ → List ℕ
-put out at [] = out
-put out at (b ∷ bs) = put (slice_set out at b) (at + 1) bs
+-- the bytes before the next one's place, and those from there on
+abbrev pub written : Output → List ℕ
+written o = take o.at o.bytes.now
 
-pub record Room (out : List ℕ) (at : ℕ) (bytes : List ℕ) : Type 0 where
-  pub holds : at + length bytes ≤ length out
+abbrev pub left : Output → List ℕ
+left o = drop o.at o.bytes.now
 
-pub record Puts (out : List ℕ) (at : ℕ) (bytes after : List ℕ) (next : ℕ) : Type 0 where
-  pub leaves : after ≡ put out at bytes
-  pub ends : next ≡ at + length bytes
+pub record Room (o : Output) (bytes : List ℕ) : Type 0 where
+  pub holds : o.at + length bytes ≤ length o.bytes.now
+
+-- The bytes stand after those that were written, and past them all is as it was. The output is still the one
+-- that was lent.
+pub record Puts (before : Output) (bytes : List ℕ) (after : Output) : Type 0 where
+  pub writes : written after ≡ written before ++ bytes
+  pub leaves : left after ≡ drop (length bytes) (left before)
+  pub moves : after.at ≡ before.at + length bytes
+  pub keeps_length : length after.bytes.now ≡ length before.bytes.now
+  pub same_reference : after.bytes.ghost_name ≡ before.bytes.ghost_name
 
 -- a number with the count of its bytes
 abbrev pub field_bytes : ℕ × ℕ → List ℕ
 field_bytes f = bytes_of f.0 f.1
-
--- the operations of which each count fits a byte
-abbrev pub Small : {V : Type 0} → List (Operation V) → Type 0
-Small {V} os = (k : ℕ) (d : Operation V) → k < length os → act_count (act_of (slice_index_or os k d).action) < 256

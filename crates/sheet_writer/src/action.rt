@@ -1,7 +1,7 @@
 // What writing asks of the parts of a sheet: an action's kind, how many locations it names and the code of
-// its new value, and a script item's byte.
-ghost use Rattle.std.specs.Prelude.{◌≡◌};
-ghost use Rattle.sheet_format.specs.Format.{act_kind, act_count, new_code_lem, item_byte_lem};
+// its new value, and a script item's byte. Uses the types of `sheet_format` and the kinds of operations.
+ghost use Rattle.std.specs.Prelude.{◌≡◌, if◌then◌else◌, Some, None};
+ghost use Rattle.sheet_format.specs.Format.{act_kind, act_count, new_code, item_byte};
 ghost use Rattle.sheet_format.specs.Parts.{act_of};
 ghost use Rattle.sheet_format.specs.Writing.{writable};
 
@@ -33,9 +33,10 @@ pub(crate) fn action_count<V: ValueKind>(action: &Action<V>) -> usize
     }
 }
 
-// The code of the new value, and 0 where there is none.
+// The code of the new value, and 0 where there is none. Not an `Option` of the value, since its one use would
+// put 0 there for `None`.
 pub(crate) fn new_code<V: ValueKind>(action: &Action<V>) -> u64
-    ensures { result ≡ new_code_lem V.coded (act_of action.now) }
+    ensures { result ≡ new_code V.coded (act_of action.now) }
 {
     match action {
         Action::Read(_) | Action::Ll(_) | Action::Snapshot(_) => 0,
@@ -43,22 +44,13 @@ pub(crate) fn new_code<V: ValueKind>(action: &Action<V>) -> u64
     }
 }
 
-// Whether a script item has a byte: a step of a process from 32 on has none.
-pub(crate) fn is_writable(item: &ScriptItem) -> bool
-    ensures { result ≡ writable item.now }
+// The byte that stands for a script item. A step of a process from 32 on has none.
+pub(crate) fn item_byte(item: &ScriptItem) -> Option<u8>
+    ensures { result ≡ (if writable item.now then Some (item_byte item.now) else None) }
 {
     match item {
-        ScriptItem::Start => true,
-        ScriptItem::Step(process) => *process < 32,
-    }
-}
-
-// The byte that stands for a script item.
-pub(crate) fn item_byte(item: &ScriptItem) -> u8
-    ensures { result ≡ item_byte_lem item.now }
-{
-    match item {
-        ScriptItem::Start => 255,
-        ScriptItem::Step(process) => *process,
+        ScriptItem::Start => Some(255),
+        ScriptItem::Step(process) if *process < 32 => Some(*process),
+        ScriptItem::Step(_) => None,
     }
 }

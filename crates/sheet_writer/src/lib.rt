@@ -4,7 +4,9 @@
 
 mod action;
 mod layout;
+mod output;
 mod puts;
+mod rows;
 mod sheet;
 
 pub use sheet::write;

@@ -4,9 +4,9 @@
 
 ghost use Rattle.std.specs.Prelude.{◌≡◌};
 ghost use Rattle.spliced_memory.specs.Joined.{joined, joined_limits, SidesKept};
-ghost use Rattle.memory.specs.Rules.{first_cells, first_few, store_answer, store_after, cas_answer, cas_after, table_stored, table_swapped};
+ghost use Rattle.memory.specs.Rules.{first_cells, first_few, table_stored, table_swapped};
 
-use memory::{Cell, Limits, Memory, MemoryFault, admit_change, counted_cells};
+use memory::{Cell, Limits, Memory, MemoryFault, counted_cells};
 use value::ValueKind;
 
 // The cells of `front`, then those of `back`; the first 65,535 count. Each limit is the smaller of the two.
@@ -20,6 +20,11 @@ impl<V: ValueKind, A: Memory<V>, B: Memory<V>> Memory<V> for Spliced<A, B> {
     ghost cells = { λ m. first_cells (joined A.Memory.cells B.Memory.cells m) };
 
     ghost limits = { λ m. joined_limits A.Memory.limits B.Memory.limits m };
+
+    // No other cell of the two memories changes, be it past the first 65,535, and each keeps its length and its limits.
+    ghost store_leaves = { λ m i cell answer n. (joined A.Memory.cells B.Memory.cells n ≡ table_stored answer (joined A.Memory.cells B.Memory.cells m) i cell) × SidesKept A.Memory.cells A.Memory.limits B.Memory.limits m n };
+
+    ghost cas_leaves = { λ m i cell answer n. (joined A.Memory.cells B.Memory.cells n ≡ table_swapped answer (joined A.Memory.cells B.Memory.cells m) i cell) × SidesKept A.Memory.cells A.Memory.limits B.Memory.limits m n };
 
     ghost few = { λ m. first_few (joined A.Memory.cells B.Memory.cells m) };
 
@@ -43,16 +48,8 @@ impl<V: ValueKind, A: Memory<V>, B: Memory<V>> Memory<V> for Spliced<A, B> {
         }
     }
 
-    // Beyond the interface, no other cell of the two memories changes, be it past the first 65,535, and each keeps its
-    // length and its limits.
-    fn store(&mut self, i: usize, cell: &Cell<V>) -> Result<(), MemoryFault>
-        ensures answer { result ≡ store_answer V.coded (joined_limits A.Memory.limits B.Memory.limits self.old) (first_cells (joined A.Memory.cells B.Memory.cells self.old)) i cell.now }
-        ensures after { first_cells (joined A.Memory.cells B.Memory.cells self.new) ≡ store_after V.coded (joined_limits A.Memory.limits B.Memory.limits self.old) (first_cells (joined A.Memory.cells B.Memory.cells self.old)) i cell.now }
-        ensures kept { joined_limits A.Memory.limits B.Memory.limits self.new ≡ joined_limits A.Memory.limits B.Memory.limits self.old }
-        ensures table { joined A.Memory.cells B.Memory.cells self.new ≡ table_stored result (joined A.Memory.cells B.Memory.cells self.old) i cell.now }
-        ensures sides { SidesKept A.Memory.cells A.Memory.limits B.Memory.limits self.old self.new }
-    {
-        admit_change(self.len(), self.limits(), i, cell)?;
+    fn store(&mut self, i: usize, cell: &Cell<V>) -> Result<(), MemoryFault> {
+        self.admit(i, cell)?;
         let split = self.front.len();
         if i < split {
             self.front.store(i, cell)
@@ -61,14 +58,8 @@ impl<V: ValueKind, A: Memory<V>, B: Memory<V>> Memory<V> for Spliced<A, B> {
         }
     }
 
-    fn cas(&mut self, i: usize, old: &Cell<V>, new: &Cell<V>) -> Result<bool, MemoryFault>
-        ensures answer { result ≡ cas_answer V.coded (joined_limits A.Memory.limits B.Memory.limits self.old) (first_cells (joined A.Memory.cells B.Memory.cells self.old)) i old.now new.now }
-        ensures after { first_cells (joined A.Memory.cells B.Memory.cells self.new) ≡ cas_after V.coded (joined_limits A.Memory.limits B.Memory.limits self.old) (first_cells (joined A.Memory.cells B.Memory.cells self.old)) i old.now new.now }
-        ensures kept { joined_limits A.Memory.limits B.Memory.limits self.new ≡ joined_limits A.Memory.limits B.Memory.limits self.old }
-        ensures table { joined A.Memory.cells B.Memory.cells self.new ≡ table_swapped result (joined A.Memory.cells B.Memory.cells self.old) i new.now }
-        ensures sides { SidesKept A.Memory.cells A.Memory.limits B.Memory.limits self.old self.new }
-    {
-        admit_change(self.len(), self.limits(), i, new)?;
+    fn cas(&mut self, i: usize, old: &Cell<V>, new: &Cell<V>) -> Result<bool, MemoryFault> {
+        self.admit(i, new)?;
         let split = self.front.len();
         if i < split {
             self.front.cas(i, old, new)

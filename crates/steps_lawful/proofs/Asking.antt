@@ -5,44 +5,29 @@ use Rattle.operation.specs.declared.kind.OperationKind.{OperationKind}
 use Rattle.operation.specs.declared.kind.OperationKind.TheVariants.{Snapshot, Kcss}
 use Rattle.phases.specs.declared.records.Operand.{Operand}
 use Rattle.lines.specs.Comparing.{operand_at}
-use Rattle.lines.specs.Suiting.{snapshot_from_lem}
+use Rattle.lines.specs.Suiting.{snapshot_from}
 use Rattle.lines.specs.Recording.{at_operand, put_second_id}
 use Rattle.protocol.specs.Operations.Request.{snapshot}
 use Rattle.protocol.specs.Phases.{Rows, places, collected, wants, kcss_of}
-use Rattle.steps_lawful.specs.View.{gather, firsts, locations, wanted, request_of}
+use Rattle.lines.specs.Gathering.{gather, firsts, locations}
+use Rattle.lines.proofs.Operands.{gathered, located, kept_locations}
+use Rattle.line_views.specs.View.{wanted, request_of}
 use Rattle.steps_lawful.specs.Showing.{Agree, Fits}
 use Rattle.steps_lawful.proofs.Fitting.{dropped, counted}
 
 module _ {V A : Type 0} (has : Operand V → Option A) (what : ℕ → A) (list : ℕ → ℕ → List A) (none : (i : ℕ) → list i 0 ≡ [])
     (more : (i k : ℕ) → list i (suc k) ≡ what i ∷ list (suc i) k) where
-  gathered : (ops : List (Operand V)) (i : ℕ) → ((j x : ℕ) (o : Operand V) → x ≡ i + j → operand_at ops j ≡ Some o → has o ≡ Some (what x))
-      → gather has ops ≡ Some (list i (length ops))
-  gathered [] i h = ap {B = Option (List A)} Some (sym (none i))
-  gathered (o ∷ rest) i h =
-      let e : has o ≡ Some (what i) = h 0 i o (omega arith) refl in
-      let r = gathered rest (suc i) (λ j x y q g. h (suc j) x y (omega arith) g) in
-      rw (e, r, more i (length rest)) refl
-
   pub all_have : {kind : OperationKind} {k a b : ℕ} {rows : Rows V} {ops : List (Operand V)} (fits : Fits kind k a b rows ops)
-      → ((i : ℕ) (o : Operand V) → i < k → Agree kind a b i o (rows i) → has o ≡ Some (what i)) → gather has (drop (snapshot_from_lem kind) ops) ≡ Some (list 0 k)
+      → ((i : ℕ) (o : Operand V) → i < k → Agree kind a b i o (rows i) → has o ≡ Some (what i)) → gather has (drop (snapshot_from kind) ops) ≡ Some (list 0 k)
   all_have {kind = kind} {k = k} {ops = ops} fits h =
-      let n : length (drop (snapshot_from_lem kind) ops) ≡ k = omega (arith, length-drop (snapshot_from_lem kind) ops, fits.count) in
-      gathered (drop (snapshot_from_lem kind) ops) 0 (λ j x o q e. (
-      let at : operand_at ops (snapshot_from_lem kind + j) ≡ Some o = sym (dropped (snapshot_from_lem kind) j ops) ∙ e in
+      let n : length (drop (snapshot_from kind) ops) ≡ k = omega (arith, length-drop (snapshot_from kind) ops, fits.count) in
+      gathered has what list none more (drop (snapshot_from kind) ops) 0 (λ j x o q e. (
+      let at : operand_at ops (snapshot_from kind + j) ≡ Some o = sym (dropped (snapshot_from kind) j ops) ∙ e in
       let i : x ≡ j = omega arith in
       rw i (h j o (counted fits j o at) (fits.each j o at))))
       ∙ ap (λ (k : ℕ). Some (list 0 k)) n
 
-located : {V : Type 0} (ops : List (Operand V)) → gather (λ o. Some o.location) ops ≡ Some (locations ops)
-located [] = refl
-located (o ∷ rest) = rw (located rest) refl
-
 -- what S9 records leaves what was asked
-kept_locations : {V : Type 0} (id : TaggedId) (j : ℕ) (ops : List (Operand V)) → locations ops ≡ locations (at_operand j (put_second_id id) ops)
-kept_locations id j [] = refl
-kept_locations id zero (o ∷ rest) = refl
-kept_locations id (suc j) (o ∷ rest) = ap (λ (list : List ℕ). o.location ∷ list) (kept_locations id j rest)
-
 pub kept_asked : {V : Type 0} (id : TaggedId) (j : ℕ) (ops : List (Operand V)) (new : Option V)
     → request_of Snapshot ops new ≡ request_of Snapshot (at_operand j (put_second_id id) ops) new
 kept_asked id j [] new = refl

@@ -1,6 +1,7 @@
 -- SNAPSHOT, alone or in a KCSS: each step of the code is a line.
 use Rattle.std.proofs.Common.{◌≡◌, ℕ, zero, suc, ◌+◌, ◌<◌, ◌≤◌, Bool, true, false, cond, ltb, List, [], ◌∷◌, length, drop, Some, None, Option, refl, ap, ◌∙◌, inl, inr, arith}
 use mathlib.Core.Option as maybe
+use Rattle.std.specs.Option.{option_map}
 use Rattle.std.proofs.lemmas.Bool.{lt-ltb, le-ltb, le-leb, cases_lt, cases_Bool}
 use Rattle.memory.specs.declared.cell.Cell.{Cell}
 use Rattle.memory.specs.declared.cell.Cell.TheVariants.{Value, Id}
@@ -20,10 +21,10 @@ use Rattle.phases.specs.declared.records.Seen.{Seen}
 use Rattle.phases.specs.declared.records.Seen.TheVariants.{Found}
 use Rattle.phases.specs.declared.turn.Finding.TheVariants.{First, Second}
 use Rattle.phases.specs.declared.turn.Finding.TheVariants as finding
-use Rattle.lines.specs.Accesses.{with_place, read_access_lem}
+use Rattle.lines.specs.Accesses.{with_place, read_access}
 use Rattle.lines.specs.Advancing.{undisturbed}
-use Rattle.lines.specs.Comparing.{operand_at, all_still_lem}
-use Rattle.lines.specs.Suiting.{snapshot_from_lem, collects_from_lem}
+use Rattle.lines.specs.Comparing.{operand_at, all_still}
+use Rattle.lines.specs.Suiting.{snapshot_from, collects_from}
 use Rattle.lines.specs.Recording.{at_operand, put_first, put_second, put_first_id, put_second_id}
 use Rattle.protocol.specs.World.{World, changed}
 use Rattle.protocol.specs.Events.Event.{look}
@@ -35,15 +36,17 @@ use Rattle.protocol.specs.Phases.Process.{proc}
 use Rattle.protocol.specs.Lines.Line.{s6_on, s6_end, c1_on, c1_got, c1_end, c2_on, c2_got, c2_end, s9_on, s9_again, s9_solo, s9_inside}
 use Rattle.protocol.specs.Sound.{CellsSound}
 use Rattle.protocol.proofs.Changes.{clash}
-use Rattle.steps_lawful.specs.View.{Cells, cells_of, Having, and_then, link_after}
-use Rattle.steps_lawful.specs.View.Running.{runs}
-use Rattle.steps_lawful.specs.Steps.{Makes, Goes, Steps}
+use Rattle.std.specs.Option.{MatchOption}
+use Rattle.line_views.specs.View.{Cells, cells_of, link_after}
+use Rattle.line_views.specs.View.Running.{runs}
+use Rattle.line_views.specs.Steps.{Makes, Goes, Steps}
 use Rattle.steps_lawful.specs.Showing.{read_phase, Agree, Fits, Collects, CollectPhase, Shows}
 use Rattle.steps_lawful.specs.Showing.Collects.{collects_snapshot, collects_kcss}
 use Rattle.steps_lawful.specs.Showing.CollectPhase.{at_s6, at_first, at_second, at_s9}
 use Rattle.steps_lawful.specs.Showing.Shows.{shows_collect, shows_swap}
 use Rattle.steps_lawful.proofs.Performing.{Stuck}
-use Rattle.steps_lawful.proofs.Fitting.{length_at, refit, fewer, with_first_agrees, with_second_agrees, with_first_id_agrees, with_second_id_agrees}
+use Rattle.lines.proofs.Operands.{length_at}
+use Rattle.steps_lawful.proofs.Fitting.{refit, fewer, with_first_agrees, with_second_agrees, with_first_id_agrees, with_second_id_agrees}
 use Rattle.steps_lawful.proofs.Comparing.{same_rows, moved_rows}
 use Rattle.steps_lawful.proofs.Asking.{kept_asked, asked_snapshot, collected_snapshot}
 use Rattle.steps_lawful.proofs.Reading.{ReadBy, by_reading}
@@ -52,15 +55,15 @@ use Rattle.steps_lawful.proofs.Reading.ReadBy.{goes_on, ends, sticks}
 module _ {V : Type 0} where
   -- its access is at the location of operand j
   opened : {kind : OperationKind} {ops : List (Operand V)} {new : Option V} {m : ℕ} {l : maybe.Option ℕ} {F : Purpose V} → Collects kind ops new m l F
-      → (i j a : ℕ) (o : Operand V) → j ≡ snapshot_from_lem kind + i → operand_at ops j ≡ Some o → a ≡ o.location → (g : ℕ → Line × Access V)
-      → cond (collects_from_lem kind j) (with_place (operand_at ops 0) (λ _. with_place (operand_at ops j) (λ a. Some (g a)))) None ≡ Some (g a)
+      → (i j a : ℕ) (o : Operand V) → j ≡ snapshot_from kind + i → operand_at ops j ≡ Some o → a ≡ o.location → (g : ℕ → Line × Access V)
+      → cond (collects_from kind j) (with_place (operand_at ops 0) (λ _. with_place (operand_at ops j) (λ a. Some (g a)))) None ≡ Some (g a)
   opened (collects_snapshot {operands = []}) i j a o at e s g = clash (cc)
   opened (collects_snapshot {operands = x ∷ rest}) i j a o at e s g = rw (e, s) refl
   opened (collects_kcss ex fi) i j a o at e s g = rw (le-leb 1 j (omega arith), e, s) refl
 
   -- what operand j records leaves what it is made for
   still_collects : {kind : OperationKind} {ops : List (Operand V)} {new : Option V} {m : ℕ} {l : maybe.Option ℕ} {F : Purpose V} → Collects kind ops new m l F
-      → (i j : ℕ) → j ≡ snapshot_from_lem kind + i → (g : Operand V → Operand V) → Collects kind (at_operand j g ops) new m l F
+      → (i j : ℕ) → j ≡ snapshot_from kind + i → (g : Operand V → Operand V) → Collects kind (at_operand j g ops) new m l F
   still_collects collects_snapshot i j at g = collects_snapshot
   still_collects (collects_kcss ex fi) i zero at g = absurd (omega arith)
   still_collects (collects_kcss ex fi) i (suc j) at g = collects_kcss ex fi
@@ -81,9 +84,9 @@ module _ {V : Type 0} (N : Type 0) (t p n b : ℕ) (w : World V) (rows : Rows V)
 
   -- S9 of the last row, if nothing was disturbed: it ends a SNAPSHOT, and in a KCSS 11 follows.
   undisturbed_goes : (l : maybe.Option ℕ) (kind : OperationKind) (ops : List (Operand V)) (new : Option V) (m : ℕ) (F : Purpose V) (k j : ℕ)
-      → Collects kind ops new m l F → i < k → k ≤ suc i → j ≡ snapshot_from_lem kind + i
+      → Collects kind ops new m l F → i < k → k ≤ suc i → j ≡ snapshot_from kind + i
       → Fits kind k k k rows9 (at_operand j (put_second_id id) ops) → Same rows9 k
-      → Having N (undisturbed kind)
+      → MatchOption (undisturbed kind) N
       (Makes Shows t p n b l w (second_id F rows k c i) (cells_of w) (runs kind ops new (SecondId j) m c f) (finding.SecondId j id))
   undisturbed_goes l _ ops new m _ k j collects_snapshot h q at fits same = (
     look p,
@@ -96,7 +99,7 @@ module _ {V : Type 0} (N : Type 0) (t p n b : ℕ) (w : World V) (rows : Rows V)
       _,
       ap (λ (x : maybe.Option ℕ). proc n x b resting) (kept_link ops l),
       kept_asked id j ops new ∙ asked_snapshot (at_operand j (put_second_id id) ops) new (omega arith) fits,
-      ap (λ (list : Option (List V)). and_then list (λ list. Some (values list))) (collected_snapshot fits),
+      ap (λ (list : Option (List V)). option_map (λ list. values list) list) (collected_snapshot fits),
       refl,
     ),
   )
@@ -107,7 +110,7 @@ module _ {V : Type 0} (N : Type 0) (t p n b : ℕ) (w : World V) (rows : Rows V)
 
 module _ {V : Type 0} (code : V → ℕ) (one : (x y : V) → code x ≡ code y → x ≡ y) (N : Type 0) (t p n b : ℕ) (l : maybe.Option ℕ) (w : World V)
     (kind : OperationKind) (ops : List (Operand V)) (new : Option V) (F : Purpose V) (rows : Rows V) (k i j m c : ℕ) (f : Bool)
-    (made : Collects kind ops new m l F) (h : i < k) (at : j ≡ snapshot_from_lem kind + i) (o : Operand V) (found_at : operand_at ops j ≡ Some o) where
+    (made : Collects kind ops new m l F) (h : i < k) (at : j ≡ snapshot_from kind + i) (o : Operand V) (found_at : operand_at ops j ≡ Some o) where
   abbrev Going : Phase V → relation.Phase V → Seen V → Cells V → Type 0
   Going phase = Goes Shows t p n b l code N w (runs kind ops new phase m c f)
 
@@ -116,10 +119,10 @@ module _ {V : Type 0} (code : V → ℕ) (one : (x y : V) → code x ≡ code y 
   agrees fits = fits.each i o (rw (← at) found_at)
 
   -- the code's test for another operand, after the one in turn was changed
-  more : (g : Operand V → Operand V) → length ops ≡ snapshot_from_lem kind + k → suc i < k → ltb (j + 1) (length (at_operand j g ops)) ≡ true
+  more : (g : Operand V → Operand V) → length ops ≡ snapshot_from kind + k → suc i < k → ltb (j + 1) (length (at_operand j g ops)) ≡ true
   more g count q = lt-ltb (j + 1) (length (at_operand j g ops)) (omega (arith, length_at g j ops))
 
-  last : (g : Operand V → Operand V) → length ops ≡ snapshot_from_lem kind + k → k ≤ suc i → ltb (j + 1) (length (at_operand j g ops)) ≡ false
+  last : (g : Operand V → Operand V) → length ops ≡ snapshot_from kind + k → k ≤ suc i → ltb (j + 1) (length (at_operand j g ops)) ≡ false
   last g count q = le-ltb (j + 1) (length (at_operand j g ops)) (omega (arith, length_at g j ops))
 
   -- the operand and its row are changed in the same way: the same pass goes on with the next row, or another begins
@@ -128,9 +131,9 @@ module _ {V : Type 0} (code : V → ℕ) (one : (x y : V) → code x ≡ code y 
         → ((z : ℕ) → z < k → (z ≡ i → ⊥) → (z < x' → z < x) × (z < y' → z < y)) → Shows (runs kind (at_operand j g ops) new phase m c' false) l ph
     goes_on_at is q H = shows_collect (suc i) (j + 1) (still_collects made i j at g) (refit fits i j o g row x' y' at found_at agree H) is q (omega arith)
 
-    begins_at : CollectPhase F (changed rows i row) k 0 (snapshot_from_lem kind) c' phase x' y' ph
+    begins_at : CollectPhase F (changed rows i row) k 0 (snapshot_from kind) c' phase x' y' ph
         → ((z : ℕ) → z < k → (z ≡ i → ⊥) → (z < x' → z < x) × (z < y' → z < y)) → Shows (runs kind (at_operand j g ops) new phase m c' false) l ph
-    begins_at is H = shows_collect 0 (snapshot_from_lem kind) (still_collects made i j at g) (refit fits i j o g row x' y' at found_at agree H) is (omega arith) (omega arith)
+    begins_at is H = shows_collect 0 (snapshot_from kind) (still_collects made i j at g) (refit fits i j o g row x' y' at found_at agree H) is (omega arith) (omega arith)
 
   -- S6
   s6_goes : Fits kind k 0 0 rows ops → Stuck N p l w (first_id F rows k i) → (x : Cell V) → w.tid (rows i).location ≡ x
@@ -148,30 +151,30 @@ module _ {V : Type 0} (code : V → ℕ) (one : (x y : V) → code x ≡ code y 
     -- the first collect
     first_goes : Fits kind k i 0 rows ops → Stuck N p l w (first_collect F rows k i (read_phase s)) → (seen : Seen V) (cells : Cells V)
         → ReadBy w p (rows i).location s seen cells → Going (FirstCollect j s) (first_collect F rows k i (read_phase s)) seen cells
-    first_goes fits stuck seen cells (goes_on turn found line kept) =
-        rw (found (First j), turn) (_, _, _, c1_on line, kept, (_, refl, refl, shows_collect i j made fits at_first h at))
-    first_goes fits stuck seen cells (ends {v = v} turn found line kept) =
+    first_goes fits stuck seen cells (goes_on turn line kept) =
+        rw turn (_, _, _, c1_on line, kept, (_, refl, refl, shows_collect i j made fits at_first h at))
+    first_goes fits stuck seen cells (ends {v = v} turn line kept) =
         let g = put_first v in
         let agree = with_first_agrees (agrees fits) v in
-        rw (found (First j), turn) (elim (cases_lt (suc i) k) [
+        rw turn (elim (cases_lt (suc i) k) [
           | inl q ↦ rw (more g fits.count q) (_, _, _, c1_got line q, kept, (_, refl, refl, goes_on_at g _ fits (agree (suc i)) at_first q (omega arith)))
           | inr q ↦ rw (last g fits.count q) (_, _, _, c1_end line q, kept, (_, refl, refl, begins_at g _ fits (agree k) at_second (omega arith)))
         ])
-    first_goes fits stuck seen cells (sticks turn found bad) = rw (found (First j), turn) (stuck (λ _ z. bad z.1))
+    first_goes fits stuck seen cells (sticks turn bad) = rw turn (stuck (λ _ z. bad z.1))
 
     -- the second collect
     second_goes : Fits kind k k i rows ops → Stuck N p l w (second_collect F rows k c i (read_phase s)) → (seen : Seen V) (cells : Cells V)
         → ReadBy w p (rows i).location s seen cells → Going (SecondCollect j s) (second_collect F rows k c i (read_phase s)) seen cells
-    second_goes fits stuck seen cells (goes_on turn found line kept) =
-        rw (found (Second j), turn) (_, _, _, c2_on line, kept, (_, refl, refl, shows_collect i j made fits at_second h at))
-    second_goes fits stuck seen cells (ends {v = v} turn found line kept) =
+    second_goes fits stuck seen cells (goes_on turn line kept) =
+        rw turn (_, _, _, c2_on line, kept, (_, refl, refl, shows_collect i j made fits at_second h at))
+    second_goes fits stuck seen cells (ends {v = v} turn line kept) =
         let g = put_second v in
         let agree = with_second_agrees (agrees fits) v in
-        rw (found (Second j), turn) (elim (cases_lt (suc i) k) [
+        rw turn (elim (cases_lt (suc i) k) [
           | inl q ↦ rw (more g fits.count q) (_, _, _, c2_got line q, kept, (_, refl, refl, goes_on_at g _ fits (agree (suc i)) at_second q (omega arith)))
           | inr q ↦ rw (last g fits.count q) (_, _, _, c2_end line q, kept, (_, refl, refl, begins_at g _ fits (agree k) at_s9 (omega arith)))
         ])
-    second_goes fits stuck seen cells (sticks turn found bad) = rw (found (Second j), turn) (stuck (λ _ z. bad z.1))
+    second_goes fits stuck seen cells (sticks turn bad) = rw turn (stuck (λ _ z. bad z.1))
 
   -- S9
   s9_goes : Fits kind k k k rows ops → Stuck N p l w (second_id F rows k c i) → (x : Cell V) → w.tid (rows i).location ≡ x
@@ -183,7 +186,7 @@ module _ {V : Type 0} (code : V → ℕ) (one : (x y : V) → code x ≡ code y 
       let fits9 = refit fits i j o g (with_id_second (rows i) (w.tid (rows i).location)) k k at found_at agree (omega arith) in
       elim (cases_lt (suc i) k) [
         | inl q ↦ rw (more g fits.count q) (look p, _, _, s9_on q, refl, (_, refl, refl, goes_on_at g _ fits agree at_s9 q (omega arith)))
-        | inr q ↦ rw (last g fits.count q) (elim (cases_Bool (all_still_lem code (drop (snapshot_from_lem kind) (at_operand j g ops)))) [
+        | inr q ↦ rw (last g fits.count q) (elim (cases_Bool (all_still code (drop (snapshot_from kind) (at_operand j g ops)))) [
           | inl r ↦ rw r (undisturbed_goes N t p n b w rows i c f id l kind ops new m F k j made h q at fits9 (same_rows code one fits9 r))
           | inr r ↦ rw r (
             look p,
@@ -191,20 +194,20 @@ module _ {V : Type 0} (code : V → ℕ) (one : (x y : V) → code x ≡ code y 
             _,
             s9_again q refl (moved_rows code one fits9 r),
             refl,
-            (_, refl, refl, shows_collect 0 (snapshot_from_lem kind) (still_collects made i j at g) (fewer fits9 0 0 (omega arith)) at_s6 (omega arith) (omega arith)),
+            (_, refl, refl, shows_collect 0 (snapshot_from kind) (still_collects made i j at g) (fewer fits9 0 0 (omega arith)) at_s6 (omega arith) (omega arith)),
           )
         ])
       ]
 
   -- the access at the row
   opened_at : {x y : ℕ} → Fits kind k x y rows ops → (g : ℕ → Line × Access V)
-      → cond (collects_from_lem kind j) (with_place (operand_at ops 0) (λ _. with_place (operand_at ops j) (λ a. Some (g a)))) None ≡ Some (g (rows i).location)
+      → cond (collects_from kind j) (with_place (operand_at ops 0) (λ _. with_place (operand_at ops j) (λ a. Some (g a)))) None ≡ Some (g (rows i).location)
   opened_at fits = opened made i j (rows i).location o at found_at (agrees fits).location
 
   -- every line of a SNAPSHOT, whatever it is made for
   pub collect_steps : (phase : Phase V) (x y : ℕ) (ph : relation.Phase V) → CollectPhase F rows k i j c phase x y ph → Fits kind k x y rows ops
       → Stuck N p l w ph → Steps Shows t p n b l code N w (runs kind ops new phase m c f) ph
   collect_steps _ _ _ _ at_s6 fits stuck = rw (opened_at fits (λ a. (S6, Load (Tid a)))) (s6_goes fits stuck (w.tid (rows i).location) refl)
-  collect_steps _ _ _ _ (at_first {s = s}) fits stuck = rw (opened_at fits (λ a. read_access_lem a s)) (by_reading w p (rows i).location s (first_goes s fits stuck))
-  collect_steps _ _ _ _ (at_second {s = s}) fits stuck = rw (opened_at fits (λ a. read_access_lem a s)) (by_reading w p (rows i).location s (second_goes s fits stuck))
+  collect_steps _ _ _ _ (at_first {s = s}) fits stuck = rw (opened_at fits (λ a. read_access a s)) (by_reading w p (rows i).location s (first_goes s fits stuck))
+  collect_steps _ _ _ _ (at_second {s = s}) fits stuck = rw (opened_at fits (λ a. read_access a s)) (by_reading w p (rows i).location s (second_goes s fits stuck))
   collect_steps _ _ _ _ at_s9 fits stuck = rw (opened_at fits (λ a. (S9, Load (Tid a)))) (s9_goes fits stuck (w.tid (rows i).location) refl)

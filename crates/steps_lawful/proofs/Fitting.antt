@@ -1,6 +1,7 @@
 -- Operands and rows: one of them changed, and lists of what all of them have.
-use Rattle.std.proofs.Common.{◌≡◌, ℕ, zero, suc, ◌+◌, ◌<◌, List, [], ◌∷◌, length, drop, Some, sym, refl, ap, ◌∙◌, inl, inr, arith}
+use Rattle.std.proofs.Common.{◌≡◌, ℕ, zero, suc, ◌+◌, ◌<◌, List, [], ◌∷◌, drop, Some, sym, refl, ap, ◌∙◌, inl, inr, arith}
 use Rattle.std.proofs.lemmas.Bool.{cases_eq}
+use Rattle.std.proofs.lemmas.Option.{slice_get_within}
 use Rattle.memory.specs.declared.cell.Cell.{Cell}
 use Rattle.memory.specs.declared.cell.Cell.TheVariants.{Id}
 use Rattle.memory.specs.declared.cell.TaggedId.{TaggedId}
@@ -8,35 +9,21 @@ use Rattle.operation.specs.declared.kind.OperationKind.{OperationKind}
 use Rattle.operation.specs.declared.kind.OperationKind.TheVariants.{Kcss}
 use Rattle.phases.specs.declared.records.Operand.{Operand}
 use Rattle.lines.specs.Comparing.{operand_at}
-use Rattle.lines.specs.Suiting.{snapshot_from_lem}
+use Rattle.lines.specs.Suiting.{snapshot_from}
 use Rattle.lines.specs.Recording.{at_operand, put_first, put_second, put_first_id, put_second_id}
+use Rattle.lines.proofs.Operands.{length_at}
 use Rattle.protocol.specs.World.{changed}
 use Rattle.protocol.specs.Phases.{Row, Rows, with_id_first, with_id_second, with_first, with_second}
 use Rattle.protocol.proofs.Changes.{clash, changed_here, changed_else}
 use Rattle.steps_lawful.specs.Showing.{Agree, Fits}
 
 module _ {V : Type 0} where
-  pub has : (ops : List (Operand V)) (i : ℕ) → i < length ops → (o : Operand V) × (operand_at ops i ≡ Some o)
-  has [] i h = absurd (omega arith)
-  has (o ∷ rest) zero h = (o, refl)
-  has (o ∷ rest) (suc i) h = has rest i (omega arith)
-
-  pub below : (ops : List (Operand V)) (i : ℕ) (o : Operand V) → operand_at ops i ≡ Some o → i < length ops
-  below [] i o e = clash (cc)
-  below (x ∷ rest) zero o e = omega arith
-  below (x ∷ rest) (suc i) o e = let h = below rest i o e in omega arith
-
   pub dropped : (d i : ℕ) (ops : List (Operand V)) → operand_at (drop d ops) i ≡ operand_at ops (d + i)
   dropped zero i ops = ap (operand_at ops) (omega arith)
   dropped (suc d) i [] = refl
   dropped (suc d) i (o ∷ rest) = dropped d i rest ∙ ap (operand_at (o ∷ rest)) (let e : suc (d + i) ≡ suc d + i = omega arith in e)
 
   module _ (f : Operand V → Operand V) where
-    pub length_at : (i : ℕ) (ops : List (Operand V)) → length (at_operand i f ops) ≡ length ops
-    length_at i [] = refl
-    length_at zero (o ∷ rest) = refl
-    length_at (suc i) (o ∷ rest) = ap suc (length_at i rest)
-
     at_here : (i : ℕ) (ops : List (Operand V)) (o : Operand V) → operand_at ops i ≡ Some o → operand_at (at_operand i f ops) i ≡ Some (f o)
     at_here i [] o e = clash (cc)
     at_here zero (x ∷ rest) o e = let q : x ≡ o = cc in cc
@@ -102,8 +89,8 @@ module _ {V : Type 0} {kind : OperationKind} {a b i : ℕ} {o : Operand V} {row 
 
 module _ {V : Type 0} {kind : OperationKind} {k a b : ℕ} {rows : Rows V} {ops : List (Operand V)} (fits : Fits kind k a b rows ops) where
   -- an operand that is collected is one of the k
-  pub counted : (i : ℕ) (o : Operand V) → operand_at ops (snapshot_from_lem kind + i) ≡ Some o → i < k
-  counted i o e = omega (arith, below ops (snapshot_from_lem kind + i) o e, fits.count)
+  pub counted : (i : ℕ) (o : Operand V) → operand_at ops (snapshot_from kind + i) ≡ Some o → i < k
+  counted i o e = omega (arith, slice_get_within ops (snapshot_from kind + i) o e, fits.count)
 
   -- fewer values count
   pub fewer : (a' b' : ℕ) → ((i : ℕ) → i < k → (i < a' → i < a) × (i < b' → i < b)) → Fits kind k a' b' rows ops
@@ -113,15 +100,15 @@ module _ {V : Type 0} {kind : OperationKind} {k a b : ℕ} {rows : Rows V} {ops 
   }
 
   -- operand j and its row i are changed in the same way
-  pub refit : (i j : ℕ) (o : Operand V) (f : Operand V → Operand V) (row : Row V) (a' b' : ℕ) → j ≡ snapshot_from_lem kind + i
+  pub refit : (i j : ℕ) (o : Operand V) (f : Operand V → Operand V) (row : Row V) (a' b' : ℕ) → j ≡ snapshot_from kind + i
       → operand_at ops j ≡ Some o → Agree kind a' b' i (f o) row
       → ((x : ℕ) → x < k → (x ≡ i → ⊥) → (x < a' → x < a) × (x < b' → x < b)) → Fits kind k a' b' (changed rows i row) (at_operand j f ops)
   refit i j o f row a' b' at e agree H = record { count = length_at f j ops ∙ fits.count; each = each' }
     where
-      each' : (x : ℕ) (y : Operand V) → operand_at (at_operand j f ops) (snapshot_from_lem kind + x) ≡ Some y → Agree kind a' b' x y (changed rows i row x)
+      each' : (x : ℕ) (y : Operand V) → operand_at (at_operand j f ops) (snapshot_from kind + x) ≡ Some y → Agree kind a' b' x y (changed rows i row x)
       each' x y g = elim (cases_eq x i) [
         | inl q ↦ (let s : y ≡ f o = cc (at_here f j ops o e) in rw (q, changed_here rows i row, s) agree)
-        | inr q ↦ (let s : operand_at ops (snapshot_from_lem kind + x) ≡ Some y = sym (at_else f j (snapshot_from_lem kind + x) ops (λ r. q (omega arith))) ∙ g in
+        | inr q ↦ (let s : operand_at ops (snapshot_from kind + x) ≡ Some y = sym (at_else f j (snapshot_from kind + x) ops (λ r. q (omega arith))) ∙ g in
             let h = H x (counted x y s) q in rw (changed_else rows i row x q) (narrow (fits.each x y s) a' b' h.0 h.1))
       ]
 

@@ -16,7 +16,7 @@ use Rattle.phases.specs.declared.records.Access.{Access}
 use Rattle.phases.specs.declared.records.Access.TheVariants.{Load, Store, Cas}
 use Rattle.phases.specs.declared.records.Seen.{Seen}
 use Rattle.phases.specs.declared.records.Seen.TheVariants.{Found}
-use Rattle.lines.specs.Accesses.{with_place, read_access_lem}
+use Rattle.lines.specs.Accesses.{with_place, read_access}
 use Rattle.lines.specs.Comparing.{operand_at}
 use Rattle.lines.specs.Suiting as suiting
 use Rattle.lines.specs.Recording.{put_first}
@@ -28,9 +28,9 @@ use Rattle.protocol.specs.Phases.{Job, place_of}
 use Rattle.protocol.specs.Phases.Phase.{attempt, attempt_again, linking, to_mark, to_note}
 use Rattle.protocol.specs.Lines.Line.{attempt_value, attempt_id, again_value, again_id, link_on, link_got, line_7}
 use Rattle.protocol.specs.Lines.Line.{line_8_yes, line_8_no, line_9_ll, line_9_one, line_9_more}
-use Rattle.steps_lawful.specs.View.{Running, Cells, cells_of, put}
-use Rattle.steps_lawful.specs.View.Running.{runs}
-use Rattle.steps_lawful.specs.Steps.{Goes, Steps}
+use Rattle.line_views.specs.View.{Running, Cells, cells_of, put}
+use Rattle.line_views.specs.View.Running.{runs}
+use Rattle.line_views.specs.Steps.{Goes, Steps}
 use Rattle.steps_lawful.specs.Showing.{read_phase, Links, LinkPhase, Shows}
 use Rattle.steps_lawful.specs.Showing.Links.{links_ll, links_kcss}
 use Rattle.steps_lawful.specs.Showing.LinkPhase.{at_attempt, at_again, at_read, at_7, at_8, at_9}
@@ -89,12 +89,12 @@ module _ {V : Type 0} (code : V → ℕ) (N : Type 0) (t p n b : ℕ) (w : World
     -- the rest of its READ
     linking_goes : (s : ReadPhase V) → Stuck N p maybe.none w (linking J (read_phase s)) → (seen : Seen V) (cells : Cells V)
         → ReadBy w p (place_of J) s seen cells → Going (S (Linking s) f) (linking J (read_phase s)) seen cells
-    linking_goes s stuck seen cells (goes_on turn found line kept) = rw turn (_, _, _, link_on line, kept, (_, refl, refl, shows_link links at_read))
-    linking_goes s stuck seen cells (ends turn found line kept) = rw turn (_, _, _, link_got line, kept, (_, refl, refl, shows_link links at_7))
-    linking_goes s stuck seen cells (sticks turn found bad) = rw turn (stuck (λ _ h. bad h.1))
+    linking_goes s stuck seen cells (goes_on turn line kept) = rw turn (_, _, _, link_on line, kept, (_, refl, refl, shows_link links at_read))
+    linking_goes s stuck seen cells (ends turn line kept) = rw turn (_, _, _, link_got line, kept, (_, refl, refl, shows_link links at_7))
+    linking_goes s stuck seen cells (sticks turn bad) = rw turn (stuck (λ _ h. bad h.1))
 
     linking_steps : (s : ReadPhase V) → Stuck N p maybe.none w (linking J (read_phase s)) → Stepping (S (Linking s) f) (linking J (read_phase s))
-    linking_steps s stuck = rw (opened links (λ a. read_access_lem a s)) (by_reading w p (place_of J) s (linking_goes s stuck))
+    linking_steps s stuck = rw (opened links (λ a. read_access a s)) (by_reading w p (place_of J) s (linking_goes s stuck))
 
     -- 8
     mark_steps : (v : V) → Stepping (S (Mark (Value v)) f) (to_mark J v)

@@ -7,7 +7,7 @@ use Rattle.phases.specs.declared.records.Seen.{Seen}
 use Rattle.protocol.specs.World.{World}
 use Rattle.protocol.specs.Phases.{Phase}
 use Rattle.protocol.specs.Sound.{CellsSound, PhaseSound}
-use Rattle.steps_lawful.specs.View.{Cells, Performing}
+use Rattle.line_views.specs.View.{Cells, Performing}
 
 -- What holds of whatever an access sees holds with what follows from it.
 pub performing : {V : Type 0} {P Q : Seen V → Cells V → Type 0} (w : World V) (access : Access V)

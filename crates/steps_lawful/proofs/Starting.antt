@@ -8,7 +8,7 @@ use Rattle.operation.specs.declared.kind.OperationKind.TheVariants.{Read, Ll, Sc
 use Rattle.operation.specs.Kinds.{counted}
 use Rattle.phases.specs.declared.records.Operand.{Operand}
 use Rattle.lines.specs.Comparing.{operand_at}
-use Rattle.lines.specs.Suiting.{snapshot_from_lem}
+use Rattle.lines.specs.Suiting.{snapshot_from}
 use Rattle.lines.specs.Recording.{first_phase}
 use Rattle.protocol.specs.World.{id_cell}
 use Rattle.protocol.specs.Operations.{Expected, Request}
@@ -19,10 +19,12 @@ use Rattle.protocol.specs.Phases.Phase.{resting}
 use Rattle.protocol.specs.Phases.Process.{proc}
 use Rattle.protocol.specs.Runs.{Begins}
 use Rattle.protocol.specs.Runs.Begins.{begins_read, begins_ll, begins_sc, begins_snapshot, begins_kcss}
+use Rattle.lines.specs.Gathering.{gather}
+use Rattle.std.specs.Option.{option_map, option_and_then}
 use Rattle.protocol.specs.Opening.{Allowed}
 use Rattle.protocol.proofs.Changes.{clash}
-use Rattle.steps_lawful.specs.View.{and_then, gather, wanted, all_wanted, request_of}
-use Rattle.steps_lawful.specs.View.Running.{runs}
+use Rattle.line_views.specs.View.{wanted, all_wanted, request_of}
+use Rattle.line_views.specs.View.Running.{runs}
 use Rattle.steps_lawful.specs.Showing.{Fits, Shows}
 use Rattle.steps_lawful.specs.Showing.Links.{links_ll, links_kcss}
 use Rattle.steps_lawful.specs.Showing.LinkPhase.{at_attempt}
@@ -33,26 +35,31 @@ use Rattle.steps_lawful.specs.Starting.{link_at_start, StartsBegin}
 use Rattle.steps_lawful.proofs.Asking.{asked_snapshot, asked_kcss}
 
 -- what was there, where something followed from it
-there : {A B : Type 0} (x : Option A) (f : A → Option B) (y : B) → and_then x f ≡ Some y → (z : A) × (x ≡ Some z) × (f z ≡ Some y)
+there : {A B : Type 0} (x : Option A) (f : A → Option B) (y : B) → option_and_then f x ≡ Some y → (z : A) × (x ≡ Some z) × (f z ≡ Some y)
 there None f y e = clash (cc)
 there (Some z) f y e = (z, refl, e)
+
+-- the same, where one was made of it
+made_of : {A B : Type 0} (x : Option A) (f : A → B) (y : B) → option_map f x ≡ Some y → (z : A) × (x ≡ Some z) × (f z ≡ y)
+made_of None f y e = clash (cc)
+made_of (Some z) f y e = (z, refl, cc)
 
 -- every operand has what was gathered
 gave : {V A : Type 0} (has : Operand V → Option A) (ops : List (Operand V)) (list : List A) → gather has ops ≡ Some list → (i : ℕ) (o : Operand V)
     → operand_at ops i ≡ Some o → (x : A) × (has o ≡ Some x)
 gave has [] list e i o g = clash (cc)
 gave {A = A} has (y ∷ rest) list e zero o g =
-    let z = there (has y) (λ x. and_then (gather has rest) (λ more. Some (x ∷ more))) list e in
+    let z = there (has y) (λ x. option_map (λ more. x ∷ more) (gather has rest)) list e in
     let q : y ≡ o = cc in
     (z.0, rw (← q) z.1)
 gave has (y ∷ rest) list e (suc i) o g =
-    let z = there (has y) (λ x. and_then (gather has rest) (λ more. Some (x ∷ more))) list e in
-    let r = there (gather has rest) (λ more. Some (z.0 ∷ more)) list z.2 in
+    let z = there (has y) (λ x. option_map (λ more. x ∷ more) (gather has rest)) list e in
+    let r = made_of (gather has rest) (λ more. z.0 ∷ more) list z.2 in
     gave has rest r.0 r.1 i o g
 
 -- an operand whose expected value is wanted has one
 expects : {V : Type 0} (o : Operand V) (w : Expected V) → wanted o ≡ Some w → (x : V) × (o.expected ≡ Some x)
-expects o w e = let z = there o.expected (λ v. Some (record { location = o.location; value = v })) w e in (z.0, z.1)
+expects o w e = let z = made_of o.expected (λ v. record { location = o.location; value = v }) w e in (z.0, z.1)
 
 -- what holds of every single operand holds of operands that are one
 alone : {V : Type 0} (P : List (Operand V) → Type 0) → ((o : Operand V) → P (o ∷ [])) → (ops : List (Operand V)) → eqb (length ops) 1 ≡ true → P ops
@@ -78,10 +85,10 @@ row_of any (Some o) = record {
 
 module _ {V : Type 0} (any : V) (kind : OperationKind) (ops : List (Operand V)) where
   abbrev rows_of : Rows V
-  rows_of i = row_of any (operand_at ops (snapshot_from_lem kind + i))
+  rows_of i = row_of any (operand_at ops (snapshot_from kind + i))
 
-  fit : (k : ℕ) → length ops ≡ snapshot_from_lem kind + k
-      → ((i : ℕ) (o : Operand V) → operand_at ops (snapshot_from_lem kind + i) ≡ Some o → kind ≡ Kcss → (x : V) × (o.expected ≡ Some x)) → Fits kind k 0 0 rows_of ops
+  fit : (k : ℕ) → length ops ≡ snapshot_from kind + k
+      → ((i : ℕ) (o : Operand V) → operand_at ops (snapshot_from kind + i) ≡ Some o → kind ≡ Kcss → (x : V) × (o.expected ≡ Some x)) → Fits kind k 0 0 rows_of ops
   fit k count h = record {
     count = count;
     each = λ i o e. rw e (record {
@@ -115,8 +122,8 @@ module _ {V : Type 0} (any : V) (t n b m c : ℕ) where
 
     sc_begins : request_of Sc (o ∷ []) new ≡ Some q → Begun l Sc (o ∷ []) new q
     sc_begins e =
-        let z = there new (λ u. Some (sc o.location u)) q e in
-        rw z.1 (as_asked l Sc (o ∷ []) (Some z.0) q _ _ z.2 refl (λ a. rw a.1 (_, begins_sc _ _, shows_sc)) a)
+        let z = made_of new (λ u. sc o.location u) q e in
+        rw z.1 (as_asked l Sc (o ∷ []) (Some z.0) q _ _ (ap (λ (r : Request V). Some r) z.2) refl (λ a. rw a.1 (_, begins_sc _ _, shows_sc)) a)
 
     snapshot_begins : (rest : List (Operand V)) → request_of Snapshot (o ∷ rest) new ≡ Some q → Begun l Snapshot (o ∷ rest) new q
     snapshot_begins rest e =
@@ -126,10 +133,10 @@ module _ {V : Type 0} (any : V) (t n b m c : ℕ) where
 
     kcss_begins : (rest : List (Operand V)) → request_of Kcss (o ∷ rest) new ≡ Some q → Begun l Kcss (o ∷ rest) new q
     kcss_begins rest e =
-        let z = there (wanted o) (λ w. and_then (all_wanted rest) (λ more. and_then new (λ u. Some (kcss w more u)))) q e in
+        let z = there (wanted o) (λ w. option_and_then (λ more. option_map (λ u. kcss w more u) new) (all_wanted rest)) q e in
         let x = expects o z.0 z.1 in
-        let r = there (all_wanted rest) (λ more. and_then new (λ u. Some (kcss z.0 more u))) q z.2 in
-        let u = there new (λ u. Some (kcss z.0 r.0 u)) q r.2 in
+        let r = there (all_wanted rest) (λ more. option_map (λ u. kcss z.0 more u) new) q z.2 in
+        let u = made_of new (λ u. kcss z.0 r.0 u) q r.2 in
         let fits = fit any Kcss (o ∷ rest) (length rest) (omega arith) (λ i y g _. (
         let s : 1 + i ≡ suc i = omega arith in
         let w = gave wanted rest r.0 r.1 i y (rw s at g) in expects y w.0 w.1)) in

@@ -8,21 +8,22 @@ use Rattle.phases.specs.declared.phase.Phase.TheVariants.{Swap}
 use Rattle.phases.specs.declared.records.Operand.{Operand}
 use Rattle.phases.specs.declared.records.Place.TheVariants.{Val}
 use Rattle.phases.specs.declared.records.Seen.TheVariants.{Said}
-use Rattle.lines.specs.Accesses.{swap_value_lem}
+use Rattle.lines.specs.Accesses.{swap_value}
 use Rattle.lines.specs.Comparing.{meets, all_meet}
 use Rattle.protocol.specs.World.{World, id_cell}
 use Rattle.protocol.specs.Phases.{Rows}
 use Rattle.protocol.specs.Phases.Phase.{swap_sc, swap}
 use Rattle.protocol.specs.Lines.Line.{sc_yes, sc_no, kcss_one, kcss_yes, kcss_retry, kcss_first, kcss_first_gone, kcss_other, kcss_other_gone}
-use Rattle.steps_lawful.specs.View.{Running, put}
-use Rattle.steps_lawful.specs.View.Running.{runs}
-use Rattle.steps_lawful.specs.Steps.{Goes, Steps}
+use Rattle.line_views.specs.View.{Running, put}
+use Rattle.line_views.specs.View.Running.{runs}
+use Rattle.line_views.specs.Steps.{Goes, Steps}
 use Rattle.steps_lawful.specs.Showing.{Fits, collected_at, Shows}
 use Rattle.steps_lawful.specs.Showing.Links.{links_kcss}
 use Rattle.steps_lawful.specs.Showing.LinkPhase.{at_attempt}
 use Rattle.steps_lawful.specs.Showing.Shows.{shows_link}
 use Rattle.steps_lawful.proofs.Fitting.{fewer}
-use Rattle.steps_lawful.proofs.Comparing.{same_true, same_false, met_rows, unmet_row}
+use Rattle.lines.proofs.Operands.{same_true, same_false}
+use Rattle.steps_lawful.proofs.Comparing.{met_rows, unmet_row}
 use Rattle.steps_lawful.proofs.Asking.{asked_kcss}
 
 -- with other operands, the step that ended the first collect is the code's
@@ -33,7 +34,7 @@ ended (suc k) c g h e = e
 module _ {V : Type 0} (code : V → ℕ) (one : (x y : V) → code x ≡ code y → x ≡ y) (N : Type 0) (t p n b : ℕ) (w : World V) (o : Operand V)
     (rest : List (Operand V)) (x u v : V) (rows : Rows V) (m c g : ℕ) (f : Bool) (ex : o.expected ≡ Some x) (fi : o.first ≡ Some v) where
   -- 11 writes the new value, or the LL's if a value is not as expected
-  writes : (r : Bool) → all_meet code (o ∷ rest) ≡ r → swap_value_lem code Kcss (o ∷ rest) (Some u) ≡ Some (cond r u v)
+  writes : (r : Bool) → all_meet code (o ∷ rest) ≡ r → swap_value code Kcss (o ∷ rest) (Some u) ≡ Some (cond r u v)
   writes true e = rw e refl
   writes false e = rw e fi
 
@@ -75,7 +76,7 @@ module _ {V : Type 0} (code : V → ℕ) (one : (x y : V) → code x ≡ code y 
         (λ h. rw (q, r) (_, _, _, kcss_other_gone z d.1 d.2 h, refl, (_, _, refl, asked_kcss ex fits, refl, rw s refl))),
       )
   steps_by k fits at false r q e =
-      let z = same_false code one o.first o.expected v x fi ex q in
+      let z = same_false code o.first o.expected v x fi ex q in
       rw (writes false (rw q refl)) (
         (λ e. rw q (_, _, _, kcss_first z e, refl, (_, _, refl, asked_kcss ex fits, refl, refl))),
         (λ h. rw q (_, _, _, kcss_first_gone z h, refl, (_, _, refl, asked_kcss ex fits, refl, refl))),

@@ -1,4 +1,2 @@
-pub mod View
-pub mod Steps
 pub mod Showing
 pub mod Starting

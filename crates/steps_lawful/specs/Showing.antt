@@ -10,7 +10,7 @@ use Rattle.phases.specs.declared.phase.Phase.{Phase}
 use Rattle.phases.specs.declared.phase.Phase.TheVariants.{Reading, Attempt, Linking, Save, Mark, Note}
 use Rattle.phases.specs.declared.phase.Phase.TheVariants.{FirstId, FirstCollect, SecondCollect, SecondId, Swap}
 use Rattle.phases.specs.declared.records.Operand.{Operand}
-use Rattle.lines.specs.Suiting.{snapshot_from_lem}
+use Rattle.lines.specs.Suiting.{snapshot_from}
 use Rattle.lines.specs.Comparing.{operand_at}
 use Rattle.protocol.specs.Phases as relation
 use Rattle.protocol.specs.Phases.{Row, Rows, Job, Purpose}
@@ -19,8 +19,8 @@ use Rattle.protocol.specs.Phases.Job.{for_ll, for_kcss}
 use Rattle.protocol.specs.Phases.Purpose.{solo, inside}
 use Rattle.protocol.specs.Phases.Phase.{reading, attempt, attempt_again, linking, to_save, to_mark, to_note}
 use Rattle.protocol.specs.Phases.Phase.{swap_sc, first_id, first_collect, second_collect, second_id, swap}
-use Rattle.steps_lawful.specs.View.{Running}
-use Rattle.steps_lawful.specs.View.Running.{runs}
+use Rattle.line_views.specs.View.{Running}
+use Rattle.line_views.specs.View.Running.{runs}
 
 -- The line that a READ is to make, with the id and the value that it keeps.
 abbrev pub read_phase : {V : Type 0} → ReadPhase V → relation.ReadPhase V
@@ -43,8 +43,8 @@ pub record Agree {V : Type 0} (kind : OperationKind) (a b i : ℕ) (o : Operand 
 -- in turn. The first collect has found the values of a of them, the second those of b.
 pub record Fits {V : Type 0} (kind : OperationKind) (k a b : ℕ) (rows : Rows V) (operands : List (Operand V))
     : Type 0 where
-  pub count : length operands ≡ snapshot_from_lem kind + k
-  pub each : (i : ℕ) (o : Operand V) → operand_at operands (snapshot_from_lem kind + i) ≡ Some o → Agree kind a b i o (rows i)
+  pub count : length operands ≡ snapshot_from kind + k
+  pub each : (i : ℕ) (o : Operand V) → operand_at operands (snapshot_from kind + i) ≡ Some o → Agree kind a b i o (rows i)
 
 -- What the LL of an operation is made for: itself; or a KCSS of the first operand's location and expected value and the new
 -- value, whose other operands are k rows.
@@ -114,7 +114,7 @@ pub data Shows {V : Type 0} : Running V → maybe.Option ℕ → relation.Phase 
   shows_collect : {kind : OperationKind} {operands : List (Operand V)} {new : Option V} {F : Purpose V} {rows : Rows V}
       {k a b : ℕ} {phase : Phase V} {m c : ℕ} {f : Bool} {l : maybe.Option ℕ} {ph : relation.Phase V} (i j : ℕ)
       → Collects kind operands new m l F → Fits kind k a b rows operands → CollectPhase F rows k i j c phase a b ph
-      → i < k → j ≡ snapshot_from_lem kind + i → Shows (runs kind operands new phase m c f) l ph
+      → i < k → j ≡ snapshot_from kind + i → Shows (runs kind operands new phase m c f) l ph
   -- the 11 of a KCSS, with the value of its LL and all values of its SNAPSHOT
   shows_swap : {o : Operand V} {rest : List (Operand V)} {x u v : V} {rows : Rows V} {k m c g : ℕ} {f : Bool}
       → o.expected ≡ Some x → o.first ≡ Some v → Fits Kcss k k k rows (o ∷ rest) → g ≡ collected_at k c

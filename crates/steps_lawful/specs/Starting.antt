@@ -12,9 +12,9 @@ use Rattle.protocol.specs.Phases.Phase.{resting}
 use Rattle.protocol.specs.Phases.Process.{proc}
 use Rattle.protocol.specs.Runs.{Begins}
 use Rattle.protocol.specs.Opening.{Allowed}
-use Rattle.steps_lawful.specs.View.{request_of}
-use Rattle.steps_lawful.specs.View.Running.{runs}
-use Rattle.steps_lawful.specs.Steps.{Showing}
+use Rattle.line_views.specs.View.{request_of}
+use Rattle.line_views.specs.View.Running.{runs}
+use Rattle.line_views.specs.Steps.{Showing}
 
 -- The link that it starts with: an SC gives the process's link up.
 abbrev pub link_at_start : OperationKind → maybe.Option ℕ → maybe.Option ℕ

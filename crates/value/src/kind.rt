@@ -1,34 +1,27 @@
 // The value-kind trait. Generic code is proved from the laws below and from nothing else, so it serves
 // every kind that keeps them.
-ghost use Rattle.std.specs.Prelude.{◌≡◌, ℕ, ◌-◌, ◌^◌, ◌<◌, ◌≤◌, Some, Decides, Option};
+ghost use Rattle.std.specs.Prelude.{◌≡◌, ℕ, ◌-◌, ◌^◌, ◌<◌, ◌≤◌, ◌==◌, Some, Decides, Option};
 
-// A kind of values. Each value has a code, a whole number; a code gives back one value or none.
-pub trait ValueKind: Copy + Drop {
+// A kind of values. Each value has a code, a whole number; a code gives back one value or none. Two values
+// are equal (`==`) exactly when their codes are.
+pub trait ValueKind: Copy + Drop + Eq {
     // The number by which a run sheet names the kind.
     const KIND: u8;
 
     // No value's code passes this one.
     const GREATEST_CODE: u64;
 
+    // the kind number
+    ghost KIND: { ℕ };
+
+    // the greatest code
+    ghost GREATEST_CODE: { ℕ };
+
     // the code of a value
     ghost coded: { Self → ℕ };
 
     // the value of a code, if it has one
     ghost decoded: { ℕ → Option Self };
-
-    // the kind number
-    ghost number: { ℕ };
-
-    // the greatest code
-    ghost greatest: { ℕ };
-
-    // The constant `KIND`, for code that is generic in the kind.
-    fn kind_number() -> u8
-        ensures { result ≡ number };
-
-    // The constant `GREATEST_CODE`, for code that is generic in the kind.
-    fn code_limit() -> u64
-        ensures { result ≡ greatest };
 
     // The code of this value.
     fn code(&self) -> u64
@@ -38,9 +31,12 @@ pub trait ValueKind: Copy + Drop {
     fn from_code(code: u64) -> Option<Self>
         ensures { result ≡ decoded code };
 
-    // Whether the two are the same value.
+    // Whether the two are the same value: what `==` answers, told of their codes.
     fn same(&self, other: &Self) -> bool
-        ensures { Decides result (coded self.now ≡ coded other.now) };
+        ensures { Decides result (coded self.now ≡ coded other.now) }
+    {
+        self == other
+    }
 
     // a value's code gives that value back
     ghost returned: { (v : Self) → decoded (coded v) ≡ Some v };
@@ -49,11 +45,14 @@ pub trait ValueKind: Copy + Drop {
     ghost kept: { (c : ℕ) (v : Self) → decoded c ≡ Some v → coded v ≡ c };
 
     // no value's code passes the greatest
-    ghost bounded: { (v : Self) → coded v ≤ greatest };
+    ghost bounded: { (v : Self) → coded v ≤ GREATEST_CODE };
 
     // the greatest code is at most 2^63 - 1
-    ghost capped: { greatest ≤ 2 ^ 63 - 1 };
+    ghost capped: { GREATEST_CODE ≤ 2 ^ 63 - 1 };
 
     // the kind number fits a byte
-    ghost numbered: { number < 256 };
+    ghost numbered: { KIND < 256 };
+
+    // equality tells whether the codes are equal
+    ghost told: { (v w : Self) → Self.eq v w ≡ (coded v == coded w) };
 }

@@ -17,9 +17,9 @@ impl ValueKind for Link {
 
     ghost decoded = { link_of };
 
-    ghost number = { 2 };
+    ghost KIND = { 2 };
 
-    ghost greatest = { 131071 };
+    ghost GREATEST_CODE = { 131071 };
 
     ghost returned = { elim [
       | Nothing ↦ nothing_at
@@ -34,18 +34,12 @@ impl ValueKind for Link {
 
     ghost numbered = { Prim.search rules };
 
-    fn kind_number() -> u8 {
-        Self::KIND
-    }
-
-    fn code_limit() -> u64 {
-        Self::GREATEST_CODE
-    }
+    ghost told = { Prim.search rules };
 
     fn code(&self) -> u64 {
         match self {
             Link::Nothing => 0,
-            Link::To(node) => 2 * node.number as u64 + node.deleted as u64,
+            Link::To(node) => 2 * u64::from(node.number) + u64::from(node.deleted),
         }
     }
 
@@ -56,17 +50,10 @@ impl ValueKind for Link {
         if code == 1 || code > Self::GREATEST_CODE {
             return None;
         }
+        // `as` narrows, and is proved to lose nothing.
         Some(Link::To(Node {
             number: (code / 2) as u16,
             deleted: code % 2 == 1,
         }))
-    }
-
-    fn same(&self, other: &Link) -> bool {
-        match (self, other) {
-            (Link::Nothing, Link::Nothing) => true,
-            (Link::To(a), Link::To(b)) => a.number == b.number && a.deleted == b.deleted,
-            _ => false,
-        }
     }
 }

@@ -16,9 +16,9 @@ impl ValueKind for Number {
 
     ghost decoded = { number_of };
 
-    ghost number = { 1 };
+    ghost KIND = { 1 };
 
-    ghost greatest = { 2 ^ 63 - 1 };
+    ghost GREATEST_CODE = { 2 ^ 63 - 1 };
 
     ghost returned = { λ v. number_at v.value v.small };
 
@@ -30,13 +30,7 @@ impl ValueKind for Number {
 
     ghost numbered = { Prim.search rules };
 
-    fn kind_number() -> u8 {
-        Self::KIND
-    }
-
-    fn code_limit() -> u64 {
-        Self::GREATEST_CODE
-    }
+    ghost told = { Prim.search rules };
 
     fn code(&self) -> u64 {
         self.value
@@ -47,9 +41,5 @@ impl ValueKind for Number {
             return None;
         }
         Some(Number { value: code })
-    }
-
-    fn same(&self, other: &Number) -> bool {
-        self.value == other.value
     }
 }

@@ -8,6 +8,6 @@ returns g c =
     let k = g.V.ValueKind in
     let m = g.met.V.ValueKind in
     record {
-      writing = write_then_read k.coded k.decoded k.number m.returned (λ v. omega (arith, m.bounded v, m.capped));
-      reading = read_then_write k.coded k.decoded k.number m.kept;
+      writing = write_then_read k.coded k.decoded k.KIND m.returned (λ v. omega (arith, m.bounded v, m.capped));
+      reading = read_then_write k.coded k.decoded k.KIND m.kept;
     }

@@ -1,27 +1,20 @@
-use Rattle.std.proofs.Common.{◌≡◌, ◌+◌, ◌<◌, [], ◌∷◌, map, vec_items, vec_len, sym, refl, ap, ◌∙◌, arith}
+use Rattle.std.proofs.Common.{◌≡◌, ◌+◌, ◌<◌, [], ◌∷◌, map, vec_items, vec_len, sym, refl, ap, ◌∙◌, rules, arith}
 use Rattle.std.proofs.lemmas.List.{map_push}
 use Rattle.std.proofs.lemmas.Slice.{pushed}
 use Rattle.sheet_format.specs.Parts.{op_of}
-use Rattle.sheet_format.specs.Reading.{operation_answer}
-use Rattle.sheet_reader.proofs.Exits.{exit_error}
-use Rattle.sheet_reader.proofs.Gathered.{gathered_none, gathered_all, gathered_full, gathered_refused, gathered_more}
+use Rattle.sheet_reader.proofs.Gathered.{gathered_all, gathered_full, gathered_refused, gathered_more}
 use Rattle.sheet_reader.proofs.sheet.read_operations.Goals as goal
-
-pub loop-next-init : goal.loop-next-init
-loop-next-init g c =
-    let none = c.new-operations.ensures.len in
-    (c.requires.before, omega arith, gathered_none g.V.ValueKind.decoded c.args.bytes.now c.args.end 4096 c.args.at _ _ (ap (map op_of) c.new-operations.ensures.items) none)
 
 pub returns-then-len-eq-MOST_OPERATIONS : goal.returns-then-len-eq-MOST_OPERATIONS
 returns-then-len-eq-MOST_OPERATIONS g c =
-    gathered_full g.V.ValueKind.decoded c.args.bytes.now c.args.end 4096 c.args.at _ _ _ c.loop-next.invariant.2 (sym c.len.ensures ∙ c.if-len-eq-MOST_OPERATIONS.true) c.loop-next-test.true
+    let full = gathered_full g.V.ValueKind.decoded c.args.bytes.now c.args.end 4096 c.args.at _ _ _ c.loop-next.invariant.2 (sym c.len.ensures ∙ c.if-len-eq-MOST_OPERATIONS.true) c.loop-next-test.true in
+    search (rules, full)
 
 pub returns-in_err-operation : goal.returns-in_err-operation
 returns-in_err-operation g c =
     let some : vec_len c.loop-next.operations < 4096 = let e = c.len.ensures in let b = c.loop-next.invariant.1 in let l = c.if-len-eq-MOST_OPERATIONS.false in grind arith in
-    exit_error _ _ c.from_residual.result (operation_answer g.V.ValueKind.decoded c.args.bytes.now c.args.end c.loop-next.next) _
-    c.from_residual.ensures.1 c.in_err-operation.ensures.answer
-    (gathered_refused g.V.ValueKind.decoded c.args.bytes.now c.args.end 4096 c.args.at _ _ _ c.loop-next.invariant.2 some c.loop-next-test.true)
+    let passes = gathered_refused g.V.ValueKind.decoded c.args.bytes.now c.args.end 4096 c.args.at _ _ _ c.loop-next.invariant.2 some c.loop-next-test.true in
+    search (rules, passes)
 
 pub loop-next-preserved : goal.loop-next-preserved
 loop-next-preserved g c =

@@ -1,22 +1,18 @@
-use Rattle.std.proofs.Common.{◌≡◌, ◌+◌, length, drop, Ok, sym, ap, ◌∙◌, arith}
-use Rattle.sheet_format.specs.Writing.{script_end_lem}
-use Rattle.sheet_writer.proofs.Layouts.{item_wrong, item_on, script_all}
+use Rattle.std.proofs.Common.{◌≡◌, length, true, false, Err, sym, ap, ◌∙◌, rules}
+use borrow.Author.Tests.{tests}
+use Rattle.std.proofs.lemmas.Iterator.{IsFirst-from_position, YieldsList-from_slice}
+use Rattle.sheet_format.specs.Writing.{writable}
+use Rattle.sheet_writer.proofs.Layouts.{end_by, script_ends}
 use Rattle.sheet_writer.proofs.layout.script_end.Goals as goal
 
-pub returns-then-not-is_writable : goal.returns-then-not-is_writable
-returns-then-not-is_writable c =
-    sym (item_wrong c.args.items.now c.loop-i.i (c.args.at + c.loop-i.i) c.loop-i-test.true c.is_writable.result c.is_writable.ensures c.if-not-is_writable.true)
-    ∙ c.loop-i.invariant
+pub returns-in-Some : goal.returns-in-Some
+returns-in-Some c =
+    let items = c.args.items.now in
+    let first = IsFirst-from_position _ _ _ (λ i. writable i ≡ false) (λ i. writable i ≡ true) c.position.ensures.ran (YieldsList-from_slice items cc) (λ x q k. search (rules, tests)) (λ x q k. search (rules, tests)) in
+    ap Err c.new.ensures ∙ sym (script_ends c.args.at items _ first ∙ ap (end_by c.args.at (length items)) c.in-Some.is)
 
-pub loop-i-preserved : goal.loop-i-preserved
-loop-i-preserved c =
-    let at = c.args.at + c.loop-i.i in
-    let e : c.args.at + (c.loop-i.i + 1) ≡ at + 1 = omega arith in
-    ap (λ n. script_end_lem n (drop (c.loop-i.i + 1) c.args.items.now)) e
-    ∙ sym (item_on c.args.items.now c.loop-i.i at c.loop-i-test.true c.is_writable.result c.is_writable.ensures c.if-not-is_writable.false)
-    ∙ c.loop-i.invariant
-
-pub returns : goal.returns
-returns c =
-    let e : c.args.at + length c.args.items.now ≡ c.args.at + c.loop-i.i = omega arith in
-    ap Ok e ∙ sym (script_all c.args.items.now c.loop-i.i (c.args.at + c.loop-i.i) c.loop-i-test.false) ∙ c.loop-i.invariant
+pub returns-in-None : goal.returns-in-None
+returns-in-None c =
+    let items = c.args.items.now in
+    let first = IsFirst-from_position _ _ _ (λ i. writable i ≡ false) (λ i. writable i ≡ true) c.position.ensures.ran (YieldsList-from_slice items cc) (λ x q k. search (rules, tests)) (λ x q k. search (rules, tests)) in
+    sym (script_ends c.args.at items _ first ∙ ap (end_by c.args.at (length items)) c.in-None.is)

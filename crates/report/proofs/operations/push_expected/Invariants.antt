@@ -1,7 +1,0 @@
-use Rattle.std.proofs.Common.{◌≡◌, ◌++◌, drop, string_bytes}
-use Rattle.std.specs.List.{flat_map}
-use Rattle.report.specs.Lines.{spaced}
-use Rattle.report.proofs.operations.push_expected.Given as goal
-
-abbrev pub invariant-loop-operand : goal.invariant-loop-operand
-invariant-loop-operand g l = string_bytes l.out ++ flat_map (λ o. spaced (g.V.ValueKind.coded o.expected)) (drop l.operand-index l.operands) ≡ string_bytes l.initial.out ++ flat_map (λ o. spaced (g.V.ValueKind.coded o.expected)) l.operands
