@@ -59,6 +59,7 @@ abbrev pub of_cell : {A : Type 0} → Cell ℕ → (ℕ → A) → A → A
 of_cell (Value v) f other = f v
 of_cell (Id i) f other = other
 
+-- what is so where a load found a value, and elsewhere; a store and a CAS find none
 abbrev pub of_seen : {A : Type 0} → Seen ℕ → (ℕ → A) → A → A
 of_seen (Found c) f other = of_cell c f other
 of_seen Stored f other = other
@@ -84,6 +85,8 @@ leaves_id = record {
 abbrev pub all_values_same : List (Operand ℕ) → Bool
 all_values_same operands = list_all (λ o. same_values code o.first o.second) operands
 
+-- an attempt of a SNAPSHOT counts as undisturbed if both values of each operand that it collects are the same;
+-- else S6 follows
 abbrev pub compared_by_values : OperationKind → List (Operand ℕ) → Option (Turn ℕ)
 compared_by_values kind operands = cond (all_values_same (drop (snapshot_from kind) operands)) (undisturbed kind) (on (FirstId (snapshot_from kind)))
 
@@ -96,11 +99,13 @@ compares_values_only = record {
       (turn_of code kind operands phase seen);
 }
 
+-- the effect of an answer: at the line's own step for a yes, as told for any other
 abbrev pub yes_here : Answer → Effect → Effect
 yes_here Values effect = effect
 yes_here Yes effect = Here
 yes_here No effect = effect
 
+-- a turn that ends an operation with yes has its effect at that step; any other turn stays as it is
 abbrev pub yes_ends_here : Option (Turn ℕ) → Option (Turn ℕ)
 yes_ends_here None = None
 yes_ends_here (Some (turn.On phase milestone)) = Some (turn.On phase milestone)

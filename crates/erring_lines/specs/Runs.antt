@@ -20,23 +20,29 @@ log_by lines script = (run lines (opening 1000) script).trace
 abbrev pub locations : List (ℕ × Option ℕ) → List ℕ
 locations given = map (λ x. x.0) given
 
+-- a location with its expected value put before others, if it has one
 abbrev pub expecting : ℕ → Option ℕ → List (Expected ℕ) → List (Expected ℕ)
 expecting location None rest = rest
 expecting location (Some v) rest = record { location = location; value = v } ∷ rest
 
+-- the locations that have an expected value, each with it, in turn
 abbrev pub expectations : List (ℕ × Option ℕ) → List (Expected ℕ)
 expectations [] = []
 expectations (x ∷ rest) = expecting x.0 x.1 (expectations rest)
 
+-- what an SC asks; none where it has no new value
 abbrev pub asks_sc : ℕ → Option ℕ → Option (Request ℕ)
 asks_sc location None = None
 asks_sc location (Some v) = Some (sc location v)
 
+-- what a KCSS asks; none where no location has an expected value, or where it has no new value
 abbrev pub asks_kcss : List (Expected ℕ) → Option ℕ → Option (Request ℕ)
 asks_kcss [] new = None
 asks_kcss (first ∷ others) None = None
 asks_kcss (first ∷ others) (Some v) = Some (kcss first others v)
 
+-- what an operation of a kind asks: a READ, LL or SC names the first operand, a SNAPSHOT all,
+-- a KCSS those with an expected value
 abbrev pub asks : OperationKind → List (ℕ × Option ℕ) → Option ℕ → Option (Request ℕ)
 asks Read [] new = None
 asks Read (x ∷ rest) new = Some (read x.0)
@@ -55,16 +61,19 @@ asked (start p kind given new ∷ rest) (suc zero) = asks kind given new
 asked (start p kind given new ∷ rest) (suc (suc n)) = asked rest (suc n)
 asked (step p ∷ rest) n = asked rest n
 
+-- the values that are there, in turn
 abbrev pub given_values : List (Option ℕ) → List ℕ
 given_values [] = []
 given_values (None ∷ rest) = given_values rest
 given_values (Some v ∷ rest) = v ∷ given_values rest
 
+-- the answer that an outcome stands for: the values that it gave, yes, or no
 abbrev pub answer_of : Outcome → Answer ℕ
 answer_of (gave os) = values (given_values os)
 answer_of said_yes = said true
 answer_of said_no = said false
 
+-- a finished operation put before others, if it is known what it was asked
 abbrev pub finishing : Option (Request ℕ) → ℕ → Outcome → ℕ → ℕ → List (Finished ℕ) → List (Finished ℕ)
 finishing None p o effect last rest = rest
 finishing (Some r) p o effect last rest = record { process = p; request = r; answer = answer_of o; effect = effect; last = last } ∷ rest
@@ -87,6 +96,7 @@ only n (ended k p o began effect last ∷ rest) = cond (k == n) (ended k p o beg
 only n (refused p k ∷ rest) = only n rest
 only n (misfit p ∷ rest) = only n rest
 
+-- the ends of all operations but the one of this number
 abbrev pub without : ℕ → List Event → List Event
 without n [] = []
 without n (ended k p o began effect last ∷ rest) = cond (k == n) (without n rest) (ended k p o began effect last ∷ without n rest)

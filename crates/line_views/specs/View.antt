@@ -32,9 +32,11 @@ pub record Cells (V : Type 0) : Type 0 where
   pub tid : ℕ → Cell V
   pub saved : ℕ → Cell V
 
+-- The cells of a world: its vals, tids and saved values.
 abbrev pub cells_of : {V : Type 0} → World V → Cells V
 cells_of w = record { val = w.val; tid = w.tid; saved = w.saved }
 
+-- The cell of a world at a place: val or tid of a location, or the saved value of a process.
 abbrev pub cell_at : {V : Type 0} → World V → Place → Cell V
 cell_at w (Val a) = w.val a
 cell_at w (Tid a) = w.tid a
@@ -69,9 +71,11 @@ fails (SecondCollect operand s) = false
 fails (SecondId operand) = false
 fails Swap = false
 
+-- An operand's location with its expected value, if it has one.
 abbrev pub wanted : {V : Type 0} → Operand V → Option (Expected V)
 wanted o = option_map (λ v. record { location = o.location; value = v }) o.expected
 
+-- The same of all operands, in turn, if each has an expected value.
 abbrev pub all_wanted : {V : Type 0} → List (Operand V) → Option (List (Expected V))
 all_wanted = gather wanted
 

@@ -24,6 +24,7 @@ read_access location LookAgain = (L1, Load (Val location))
 read_access location (Fetch kept) = (L3a, Load (Saved kept.process))
 read_access location (Reset kept saved) = (L3b, Cas (Val location) (Id kept) (Value saved))
 
+-- what `f` gives for this operand's location; none where there is no operand
 abbrev pub with_place : {V A : Type 0} → Option (Operand V) → (ℕ → Option A) → Option A
 with_place None f = None
 with_place (Some o) f = f o.location
@@ -37,6 +38,7 @@ module _ {V : Type 0} (code : V → ℕ) where
   swap_value Snapshot operands new = new
   swap_value Kcss operands new = cond (all_meet code operands) new (option_and_then (λ o. o.first) (operand_at operands 0))
 
+  -- 11 CASes val of the location from own id to this value; where there is no value, it makes no access
   abbrev pub swap_access : TaggedId → ℕ → Option V → Option (Line × Access V)
   swap_access own location None = None
   swap_access own location (Some v) = Some (L11, Cas (Val location) (Id own) (Value v))
@@ -57,8 +59,10 @@ module _ {V : Type 0} (code : V → ℕ) where
     phase_access location (SecondId operand) = with_place (operand_at operands operand) (λ a. Some (S9, Load (Tid a)))
     phase_access location Swap = swap_access own location (swap_value kind operands new)
 
+    -- the access of this phase, with the first operand's location; none where there is no operand
     abbrev pub line_access : Phase V → Option (Line × Access V)
     line_access phase = with_place (operand_at operands 0) (λ a. phase_access a phase)
 
+    -- the line that comes next, with its access; none where the phase does not suit the operation's kind
     abbrev pub next_access : Phase V → Option (Line × Access V)
     next_access phase = cond (suiting kind phase) (line_access phase) None

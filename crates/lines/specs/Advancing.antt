@@ -50,6 +50,7 @@ ending_value_of None = None
 ending_value_of (Some (On read)) = None
 ending_value_of (Some (Got v)) = Some v
 
+-- the value that ends a READ in this phase, if what was seen there ends it
 abbrev pub ending_value : {V : Type 0} → ReadPhase V → Seen V → Option V
 ending_value read seen = ending_value_of (read_turn read seen)
 
@@ -65,13 +66,16 @@ found_id (Found (Id i)) = Some i
 found_id Stored = None
 found_id (Said b) = None
 
+-- the id that was found is recorded; where none was, there is no finding
 abbrev pub id_finding : {V : Type 0} → (TaggedId → Finding V) → Seen V → Option (Finding V)
 id_finding records seen = option_map records (found_id seen)
 
+-- the value that an LL kept is recorded as the first operand's first value; a kept id has no finding
 abbrev pub note_finding : {V : Type 0} → Cell V → Option (Finding V)
 note_finding (Value v) = Some (finding.First 0 v)
 note_finding (Id i) = None
 
+-- what the line of each phase records of what it saw; the READ of an LL, 7, 8 and 11 record nothing
 abbrev pub finding_of : {V : Type 0} → Phase V → Seen V → Option (Finding V)
 finding_of Idle seen = Some finding.Nothing
 finding_of (Reading read) seen = read_finding (finding.First 0) read seen
@@ -90,6 +94,7 @@ finding_of Swap seen = Some finding.Nothing
 abbrev pub next_operand : ℕ → ℕ → Option ℕ
 next_operand operand count = cond (nat_lt (operand + 1) count) (Some (operand + 1)) None
 
+-- the process goes on to this phase, and the step is no milestone
 abbrev pub on : {V : Type 0} → Phase V → Option (Turn V)
 on phase = Some (turn.On phase None)
 
@@ -101,6 +106,7 @@ noted Sc count = None
 noted Snapshot count = None
 noted Kcss count = cond (nat_lt 1 count) (on (FirstId 1)) (on Swap)
 
+-- where nothing differed, a SNAPSHOT ends, with its first collect's end for effect; a KCSS goes on with 11
 abbrev pub undisturbed : {V : Type 0} → OperationKind → Option (Turn V)
 undisturbed Read = None
 undisturbed Ll = None
@@ -108,6 +114,7 @@ undisturbed Sc = None
 undisturbed Snapshot = Some (turn.Ends Values AtCollect)
 undisturbed Kcss = on Swap
 
+-- on to this operand in that phase; where there is no such operand, what follows the last
 abbrev pub go_to_operand : {V : Type 0} → Option ℕ → (ℕ → Phase V) → Option (Turn V) → Option (Turn V)
 go_to_operand (Some operand) phase last = on (phase operand)
 go_to_operand None phase last = last
@@ -126,33 +133,40 @@ collected phase last count operand (Got v) = go_to_operand (next_operand operand
 abbrev pub first_collected : {V : Type 0} → OperationKind → ℕ → ℕ → ReadTurn V → Option (Turn V)
 first_collected kind = collected FirstCollect (Some (turn.On (SecondCollect (snapshot_from kind) Look) (Some Collected)))
 
+-- the READ that ends the second collect leads to S9 of the first operand that is collected
 abbrev pub second_collected : {V : Type 0} → OperationKind → ℕ → ℕ → ReadTurn V → Option (Turn V)
 second_collected kind = collected SecondCollect (on (SecondId (snapshot_from kind)))
 
+-- where a READ operation goes: on in its READ, or to its end, which is its effect step
 abbrev pub reading_turn : {V : Type 0} → ReadTurn V → Option (Turn V)
 reading_turn (On read) = on (Reading read)
 reading_turn (Got v) = Some (turn.Ends Values Here)
 
+-- where the READ of an LL goes: on in it, or with its value to 7
 abbrev pub linking_turn : {V : Type 0} → ReadTurn V → Option (Turn V)
 linking_turn (On read) = on (Linking read)
 linking_turn (Got v) = on (Save (Value v))
 
+-- the first 13 of a fresh attempt loads: a value leads to 7, an id to 1
 abbrev pub attempt_turn : {V : Type 0} → Seen V → Option (Turn V)
 attempt_turn (Found (Value v)) = on (Save (Value v))
 attempt_turn (Found (Id i)) = on (Linking LookAgain)
 attempt_turn Stored = None
 attempt_turn (Said b) = None
 
+-- what follows a line that stores, as 7 and 9 do: `next` after a store, else none
 abbrev pub stored_turn : {V : Type 0} → Seen V → Option (Turn V) → Option (Turn V)
 stored_turn (Found c) next = None
 stored_turn Stored next = next
 stored_turn (Said b) next = None
 
+-- 8 CASes: its yes may be the effect step and leads to 9, its no begins a fresh attempt
 abbrev pub mark_turn : {V : Type 0} → Cell V → Seen V → Option (Turn V)
 mark_turn kept (Found c) = None
 mark_turn kept Stored = None
 mark_turn kept (Said said) = cond said (Some (turn.On (Note kept) (Some Marked))) (on Attempt)
 
+-- what follows a line that loads, as S6 and S9 do: `next` after a load, else none
 abbrev pub found_turn : {V : Type 0} → Seen V → Option (Turn V) → Option (Turn V)
 found_turn (Found c) next = next
 found_turn Stored next = None
@@ -172,6 +186,7 @@ module _ {V : Type 0} (code : V → ℕ) (kind : OperationKind) (operands : List
       (Some (turn.Ends No AtCollect)))
       (Some (turn.Ends No AtMark))
 
+  -- an SC ends at its 11 with what the CAS said, a KCSS goes by the rule above; the other kinds have no 11
   abbrev pub swapped_by : OperationKind → Bool → Operand V → Option (Turn V)
   swapped_by Read said first = None
   swapped_by Ll said first = None
@@ -179,9 +194,11 @@ module _ {V : Type 0} (code : V → ℕ) (kind : OperationKind) (operands : List
   swapped_by Snapshot said first = None
   swapped_by Kcss said first = kcss_swapped said first
 
+  -- where 11 leads from what its CAS said; none where the operation has no operand
   abbrev pub swapped : Bool → Option (Turn V)
   swapped said = option_and_then (swapped_by kind said) (operand_at operands 0)
 
+  -- 11 CASes: what the CAS said decides, and anything else that was seen leads nowhere
   abbrev pub swap_turn : Seen V → Option (Turn V)
   swap_turn (Found c) = None
   swap_turn Stored = None

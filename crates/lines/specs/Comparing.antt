@@ -8,6 +8,7 @@ use Rattle.phases.specs.declared.records.Operand.{Operand}
 abbrev pub operand_at : {V : Type 0} → List (Operand V) → ℕ → Option (Operand V)
 operand_at operands i = slice_get operands i
 
+-- ids are the same when their processes and their tags are equal
 abbrev pub same_ids : TaggedId → TaggedId → Bool
 same_ids i j = i.process == j.process && i.tag == j.tag
 
@@ -22,6 +23,7 @@ module _ {V : Type 0} (code : V → ℕ) where
   abbrev pub still : Operand V → Bool
   still o = same_ids o.first_id o.second_id && same_values o.first o.second
 
+  -- both ids and both values of every operand are the same
   abbrev pub all_still : List (Operand V) → Bool
   all_still operands = list_all still operands
 
@@ -29,5 +31,6 @@ module _ {V : Type 0} (code : V → ℕ) where
   abbrev pub meets : Operand V → Bool
   meets o = same_values o.first o.expected
 
+  -- the value that was collected first is the expected one at every operand
   abbrev pub all_meet : List (Operand V) → Bool
   all_meet operands = list_all meets operands

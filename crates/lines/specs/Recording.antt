@@ -28,6 +28,7 @@ at_operand i f [] = []
 at_operand zero f (o ∷ rest) = f o ∷ rest
 at_operand (suc i) f (o ∷ rest) = o ∷ at_operand i f rest
 
+-- The operand with this first value, and all else as it was.
 abbrev pub put_first : {V : Type 0} → V → Operand V → Operand V
 put_first v o = record {
   location = o.location;
@@ -38,6 +39,7 @@ put_first v o = record {
   second_id = o.second_id;
 }
 
+-- The operand with this second value, and all else as it was.
 abbrev pub put_second : {V : Type 0} → V → Operand V → Operand V
 put_second v o = record {
   location = o.location;
@@ -48,6 +50,7 @@ put_second v o = record {
   second_id = o.second_id;
 }
 
+-- The operand with this first id, and all else as it was.
 abbrev pub put_first_id : {V : Type 0} → TaggedId → Operand V → Operand V
 put_first_id i o = record {
   location = o.location;
@@ -58,6 +61,7 @@ put_first_id i o = record {
   second_id = o.second_id;
 }
 
+-- The operand with this second id, and all else as it was.
 abbrev pub put_second_id : {V : Type 0} → TaggedId → Operand V → Operand V
 put_second_id i o = record {
   location = o.location;
@@ -68,6 +72,7 @@ put_second_id i o = record {
   second_id = i;
 }
 
+-- The operands once a finding is recorded in the one that it names; a finding of nothing changes none.
 abbrev pub recorded : {V : Type 0} → Finding V → List (Operand V) → List (Operand V)
 recorded finding.Nothing operands = operands
 recorded (finding.FirstId i id) operands = at_operand i (put_first_id id) operands
@@ -100,6 +105,7 @@ marked_after None t m = m
 marked_after (Some Marked) t m = t
 marked_after (Some Collected) t m = m
 
+-- The step that ended the last first collect, once step t is taken: t itself if it ended one.
 abbrev pub collected_after : Option Milestone → (t collected : ℕ) → ℕ
 collected_after None t c = c
 collected_after (Some Marked) t c = c

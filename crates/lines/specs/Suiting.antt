@@ -21,6 +21,7 @@ collects_from Sc operand = false
 collects_from Snapshot operand = true
 collects_from Kcss operand = nat_le 1 operand
 
+-- the kind that the phases of a READ operation suit: READ
 abbrev pub reads : OperationKind → Bool
 reads Read = true
 reads Ll = false
@@ -28,6 +29,7 @@ reads Sc = false
 reads Snapshot = false
 reads Kcss = false
 
+-- the kinds that the phases of an LL suit: LL and KCSS
 abbrev pub links : OperationKind → Bool
 links Read = false
 links Ll = true
@@ -35,6 +37,7 @@ links Sc = false
 links Snapshot = false
 links Kcss = true
 
+-- the kinds that make 11: SC and KCSS
 abbrev pub swaps : OperationKind → Bool
 swaps Read = false
 swaps Ll = false
@@ -42,6 +45,7 @@ swaps Sc = true
 swaps Snapshot = false
 swaps Kcss = true
 
+-- whether a phase suits a kind, with one clause for each phase; Idle suits none
 abbrev pub suiting : {V : Type 0} → OperationKind → Phase V → Bool
 suiting kind Idle = false
 suiting kind (Reading read) = reads kind

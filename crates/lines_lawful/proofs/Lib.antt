@@ -1,8 +1,6 @@
-pub mod Small
-pub mod Fitting
-pub mod Compares
-pub mod Collects
-pub mod Singles
-pub mod Wanting
-pub mod Inside
-pub mod Swaps
+pub mod Carrying
+pub mod Showing
+pub mod Parts
+pub mod Collecting
+pub mod Single
+pub mod Several

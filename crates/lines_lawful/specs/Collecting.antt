@@ -13,7 +13,7 @@ use Rattle.protocol.specs.Phases.Purpose.{solo}
 use Rattle.protocol.specs.Phases.Phase.{first_id, first_collect, second_collect, second_id}
 use Rattle.line_views.specs.View.{Running}
 use Rattle.line_views.specs.View.Running.{runs}
-use Rattle.lines_lawful.specs.Showing.{read_phase}
+use Rattle.steps_lawful.specs.Showing.{read_phase}
 
 -- Operand j and a row are the same in location and ids, in first value if j is below a, and in second value if it is
 -- below b.

@@ -15,7 +15,7 @@ use Rattle.protocol.specs.Phases.Purpose.{inside}
 use Rattle.protocol.specs.Phases.Phase.{attempt, attempt_again, linking, to_save, to_mark, to_note, first_id, first_collect, second_collect, second_id, swap}
 use Rattle.line_views.specs.View.{Running}
 use Rattle.line_views.specs.View.Running.{runs}
-use Rattle.lines_lawful.specs.Showing.{read_phase}
+use Rattle.steps_lawful.specs.Showing.{read_phase}
 use Rattle.lines_lawful.specs.Collecting.{Fits}
 use Rattle.lines_lawful.specs.Single.{single}
 

@@ -4,21 +4,14 @@ use Rattle.std.proofs.Math.Option as maybe
 use Rattle.memory.specs.declared.cell.Cell.TheVariants.{Value}
 use Rattle.operation.specs.declared.kind.OperationKind.TheVariants.{Read, Ll, Sc}
 use Rattle.phases.specs.declared.phase.ReadPhase.{ReadPhase}
-use Rattle.phases.specs.declared.phase.ReadPhase.TheVariants.{Look, LookAgain, Fetch, Reset}
 use Rattle.phases.specs.declared.phase.Phase.TheVariants.{Reading, Attempt, Linking, Save, Mark, Note, Swap}
 use Rattle.phases.specs.declared.records.Operand.{Operand}
 use Rattle.protocol.specs.Phases as relation
-use Rattle.protocol.specs.Phases.ReadPhase.{looks, looks_again, fetches, resets}
 use Rattle.protocol.specs.Phases.Job.{for_ll}
 use Rattle.protocol.specs.Phases.Phase.{reading, attempt, attempt_again, linking, to_save, to_mark, to_note, swap_sc}
 use Rattle.line_views.specs.View.{Running}
 use Rattle.line_views.specs.View.Running.{runs}
-
-abbrev pub read_phase : {V : Type 0} → ReadPhase V → relation.ReadPhase V
-read_phase Look = looks
-read_phase LookAgain = looks_again
-read_phase (Fetch kept) = fetches kept
-read_phase (Reset kept saved) = resets kept saved
+use Rattle.steps_lawful.specs.Showing.{read_phase}
 
 -- a READ
 pub data ShowsRead {V : Type 0} : Running V → maybe.Option ℕ → relation.Phase V → Type 0 where

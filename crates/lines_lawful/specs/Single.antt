@@ -13,7 +13,7 @@ use Rattle.protocol.specs.Phases.Job.{for_kcss}
 use Rattle.protocol.specs.Phases.Phase.{attempt, attempt_again, linking, to_save, to_mark, to_note, swap}
 use Rattle.line_views.specs.View.{Running}
 use Rattle.line_views.specs.View.Running.{runs}
-use Rattle.lines_lawful.specs.Showing.{read_phase}
+use Rattle.steps_lawful.specs.Showing.{read_phase}
 
 -- its operand: location, expected value, and what the lines found
 abbrev pub single : {V : Type 0} → ℕ → V → Option V → Option V → TaggedId → TaggedId → Operand V

@@ -1,6 +1,6 @@
 // The lines as code and the lines as a relation: each step that the pure functions of crate lines say a process makes
 // is a line of the relation of crate protocol. It is proof alone: each theorem is the contract of a function that does
-// nothing else.
+// nothing else. Each follows from the one theorem of crate steps_lawful, of which it is the case of one kind.
 // Uses value kinds; what the theorems speak of stands in their contracts.
 #![tactic(auto)]
 

@@ -18,7 +18,7 @@ pub enum MemoryRefusal {
     Unfit = 2,
 }
 
-// The number of a refusal.
+// The number of a refusal, which `as` takes from the enum.
 impl From<MemoryRefusal> for u8 {
     ghost from_gives = { λ refusal number. number ≡ refusal_number refusal };
 
@@ -38,7 +38,8 @@ impl fmt::Display for MemoryRefusal {
     }
 }
 
-// A refusal and its place: the index of the cell, or 0.
+// A refusal and its place: the index of the cell, or 0. The rules give each layer a fault type of its own, so this one and
+// that of run sheets are two, alike but for their refusals and their layer.
 #[derive(Clone, Copy, Debug, PartialEq, Eq)]
 pub struct MemoryFault {
     pub refusal: MemoryRefusal,
@@ -46,7 +47,7 @@ pub struct MemoryFault {
 }
 
 impl MemoryFault {
-    // There is no cell i.
+    // There is no cell i. Two constructors and no refusal as a parameter: clauses and rules name the two apart.
     pub fn no_cell(i: usize) -> MemoryFault
         ensures { result ≡ no_cell i }
     {
@@ -66,7 +67,7 @@ impl MemoryFault {
         }
     }
 
-    // The layer that refuses.
+    // The layer that refuses, by the number that the rules give it.
     pub fn layer(&self) -> u8
         ensures { result ≡ memory_layer }
     {

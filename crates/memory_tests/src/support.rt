@@ -53,6 +53,7 @@ pub fn numbered(process: u16, tag: u64) -> Cell<Number> {
     Cell::Id(TaggedId { process, tag })
 }
 
+// The same id in a memory of links: two functions, so that a test says which.
 pub fn linked(process: u16, tag: u64) -> Cell<Link> {
     Cell::Id(TaggedId { process, tag })
 }

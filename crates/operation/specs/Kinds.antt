@@ -4,6 +4,7 @@ use Rattle.operation.specs.declared.kind.OperationKind.{OperationKind}
 use Rattle.operation.specs.declared.kind.OperationKind.TheVariants.{Read, Ll, Sc, Snapshot, Kcss}
 use Rattle.operation.specs.declared.kind.UnknownKind.{UnknownKind}
 
+-- the number by which a run sheet names a kind: 1 to 5
 abbrev pub kind_number : OperationKind → ℕ
 kind_number Read = 1
 kind_number Ll = 2
@@ -11,6 +12,7 @@ kind_number Sc = 3
 kind_number Snapshot = 4
 kind_number Kcss = 5
 
+-- the kind that has this number; none where it is not 1 to 5
 abbrev pub kind_of : ℕ → Option OperationKind
 kind_of n = cond (n == 1) (Some Read)
     (cond (n == 2) (Some Ll)
@@ -18,6 +20,7 @@ kind_of n = cond (n == 1) (Some Read)
     (cond (n == 4) (Some Snapshot)
     (cond (n == 5) (Some Kcss) None))))
 
+-- the kind that was found for n, or n as an error where none was
 abbrev pub kind_or_error : ℕ → Option OperationKind → Result OperationKind UnknownKind
 kind_or_error n (Some kind) = Ok kind
 kind_or_error n None = Err (record { number = n })

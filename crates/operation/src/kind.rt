@@ -30,7 +30,7 @@ impl fmt::Display for UnknownKind {
 
 impl Error for UnknownKind {}
 
-// The number of a kind.
+// The number of a kind, which `as` takes from the enum.
 impl From<OperationKind> for u8 {
     ghost from_gives = { λ kind number. number ≡ kind_number kind };
 

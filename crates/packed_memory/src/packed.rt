@@ -10,7 +10,8 @@ use std::marker::PhantomData;
 use value::ValueKind;
 
 // A table of words, of which the first 65,535 count, and the kind of the values that they stand for. The calls compare an
-// index with the table's length and not with `len`, which speaks of cells: so it is known to be one of the table.
+// index with the table's length and not with `len`, which speaks of cells: so it is known to be one of the table. Store and
+// CAS write out the two tests, since only the second tells the word.
 #[derive(Drop)]
 pub struct PackedMemory<'a, V> {
     pub words: &'a mut [u64],

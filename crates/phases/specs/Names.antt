@@ -3,6 +3,7 @@ use Rattle.std.specs.Prelude.{List, ℕ, codes}
 use Rattle.phases.specs.declared.name.Line.{Line}
 use Rattle.phases.specs.declared.name.Line.TheVariants.{L13, L1, L3a, L3b, L7, L8, L9, L11, S6, S9}
 
+-- a line's name as text, as the rules write it
 abbrev pub line_name : Line → List ℕ
 line_name L13 = codes "13"
 line_name L1 = codes "1"

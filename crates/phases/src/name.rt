@@ -20,7 +20,7 @@ pub enum Line {
 }
 
 impl Line {
-    // The name of the line.
+    // The name of the line, for those who want it as a text; `Display` writes it.
     pub fn name(self) -> &'static str
         ensures { result.now ≡ line_name self }
     {

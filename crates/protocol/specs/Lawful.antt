@@ -87,5 +87,6 @@ pub record Law {V : Type 0} (run : Run V) (n : ℕ) : Type 0 where
       → one.request ≡ sc location new → one.answer ≡ said false
       → LostToReset run n one location (belongs one listed).start
 
+-- The law holds of the first n steps of every run, for every n.
 abbrev pub RunLaw : Type 0 → Type 0
 RunLaw V = (run : Run V) (n : ℕ) → Law run n

@@ -42,6 +42,7 @@ pub record NeverReturn {V : Type 0} (history : History V) : Type 0 where
       → (history.at last).val location ≡ id_cell process tag
       → (history.at between).val location ≡ id_cell process tag
 
+-- In every history each tid holds a dead id, and an id that has left a tid or a val never comes back to it.
 abbrev pub IdsNeverReturn : Type 0 → Type 0
 IdsNeverReturn V = (history : History V) → NeverReturn history
 
@@ -66,6 +67,7 @@ pub record TidGuards {V : Type 0} (history : History V) : Type 0 where
   pub same_unwritten : (first last location : ℕ) → (history.at last).tid location ≡ (history.at first).tid location
       → (step process : ℕ) → first ≤ step → step < last → history.event step ≢ note process location
 
+-- In every history a value found in a val is kept until the tid is written, and an unchanged tid was not written.
 abbrev pub TidsGuardValues : Type 0 → Type 0
 TidsGuardValues V = (history : History V) → TidGuards history
 
@@ -78,6 +80,7 @@ pub record OneValue {V : Type 0} (history : History V) : Type 0 where
       → Stands (history.at time) location value → Stands (history.at (suc time)) location other
       → (value ≡ other) ⊎ ((process : ℕ) × (history.event time ≡ commit process location other))
 
+-- In every history each location stands for one value at a time, and only a commit changes it.
 abbrev pub ChangesByCommit : Type 0 → Type 0
 ChangesByCommit V = (history : History V) → OneValue history
 

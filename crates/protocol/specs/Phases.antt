@@ -41,6 +41,7 @@ with_id_first row found = record {
   id_second = row.id_second;
 }
 
+-- An operand with what S9 found in its tid.
 abbrev pub with_id_second : {V : Type 0} → Row V → Cell V → Row V
 with_id_second row found = record {
   location = row.location;
@@ -51,6 +52,7 @@ with_id_second row found = record {
   id_second = found;
 }
 
+-- An operand with the value that the first collect found.
 abbrev pub with_first : {V : Type 0} → Row V → V → Row V
 with_first row found = record {
   location = row.location;
@@ -61,6 +63,7 @@ with_first row found = record {
   id_second = row.id_second;
 }
 
+-- An operand with the value that the second collect found.
 abbrev pub with_second : {V : Type 0} → Row V → V → Row V
 with_second row found = record {
   location = row.location;
@@ -77,6 +80,7 @@ pub data Job (V : Type 0) : Type 0 where
   for_ll : (location : ℕ) → Job V
   for_kcss : (location : ℕ) (expected new : V) (rows : Rows V) (count : ℕ) → Job V
 
+-- The location of the LL: its own, or the first of the KCSS that it is made for.
 abbrev pub place_of : {V : Type 0} → Job V → ℕ
 place_of (for_ll a) = a
 place_of (for_kcss a x u rows k) = a
@@ -122,10 +126,12 @@ abbrev pub collected : {V : Type 0} → Rows V → ℕ → ℕ → List V
 collected rows i zero = []
 collected rows i (suc k) = (rows i).first ∷ collected rows (suc i) k
 
+-- The locations of k operands, from operand i on.
 abbrev pub places : {V : Type 0} → Rows V → ℕ → ℕ → List ℕ
 places rows i zero = []
 places rows i (suc k) = (rows i).location ∷ places rows (suc i) k
 
+-- The locations and expected values of k operands, from operand i on.
 abbrev pub wants : {V : Type 0} → Rows V → ℕ → ℕ → List (Expected V)
 wants rows i zero = []
 wants rows i (suc k) = record { location = (rows i).location; value = (rows i).expected } ∷ wants rows (suc i) k
@@ -142,10 +148,12 @@ Meets rows k = (j : ℕ) → j < k → (rows j).first ≡ (rows j).expected
 abbrev pub kcss_of : {V : Type 0} → ℕ → V → V → Rows V → ℕ → Request V
 kcss_of a x u rows k = kcss (record { location = a; value = x }) (wants rows 0 k) u
 
+-- What was asked where an LL is made: that LL, or the KCSS that it is made for.
 abbrev pub job_request : {V : Type 0} → Job V → Request V
 job_request (for_ll a) = ll a
 job_request (for_kcss a x u rows k) = kcss_of a x u rows k
 
+-- What was asked where a SNAPSHOT of k operands is made: that SNAPSHOT, or the KCSS that it is made for.
 abbrev pub purpose_request : {V : Type 0} → Purpose V → Rows V → ℕ → Request V
 purpose_request solo rows k = snapshot (places rows 0 k)
 purpose_request (inside a x u v t8) rows k = kcss_of a x u rows k
@@ -167,6 +175,7 @@ phase_request (second_collect F rows k f i s) = some (purpose_request F rows k)
 phase_request (second_id F rows k f i) = some (purpose_request F rows k)
 phase_request (swap a x u v t8 rows k f) = some (kcss_of a x u rows k)
 
+-- What a process was asked, if it runs an operation.
 abbrev pub asked : {V : Type 0} → Process V → Option (Request V)
 asked (proc n l b ph) = phase_request ph
 
@@ -175,10 +184,13 @@ abbrev pub link_stage : Option ℕ → Stage
 link_stage none = idle
 link_stage (some a) = armed a
 
+-- The stage in a SNAPSHOT: that of the link if it is made for itself; armed if it is made for a KCSS.
 abbrev pub purpose_stage : {V : Type 0} → Purpose V → Option ℕ → Stage
 purpose_stage solo l = link_stage l
 purpose_stage (inside a x u v t8) l = armed a
 
+-- The stage in a phase. Before an attempt it is idle, or fresh after an 8 that said no; then it is fresh until 8,
+-- held until 9 and armed until 11. At rest, in a READ and in a SNAPSHOT made for itself it is that of the link.
 abbrev pub phase_stage : {V : Type 0} → Option ℕ → Phase V → Stage
 phase_stage l resting = link_stage l
 phase_stage l (reading a s) = link_stage l
@@ -195,8 +207,10 @@ phase_stage l (second_collect F rows k f i s) = purpose_stage F l
 phase_stage l (second_id F rows k f i) = purpose_stage F l
 phase_stage l (swap a x u v t8 rows k f) = armed a
 
+-- The stage of a process, by its link and its phase.
 abbrev pub stage_of : {V : Type 0} → Process V → Stage
 stage_of (proc n l b ph) = phase_stage l ph
 
+-- The tag of a process.
 abbrev pub tag_of : {V : Type 0} → Process V → ℕ
 tag_of (proc n l b ph) = n

@@ -42,6 +42,7 @@ abbrev pub JobFits : {V : Type 0} → Job V → Type 0
 JobFits (for_ll a) = Unit {0}
 JobFits (for_kcss a x u rows k) = Off a rows k
 
+-- The same where a SNAPSHOT of k operands is made: for a KCSS, its first location is not among them.
 abbrev pub PurposeFits : {V : Type 0} → Purpose V → Rows V → ℕ → Type 0
 PurposeFits solo rows k = Unit {0}
 PurposeFits (inside a x u v t8) rows k = Off a rows k
@@ -67,12 +68,15 @@ Rest val p n (inside a x u v t8) k E = (E ≡ 4 * k + 10) ⊎ ((val a ≡ id_cel
 abbrev pub IdsStand : {V : Type 0} → (tid : ℕ → Cell V) → Rows V → ℕ → Type 0
 IdsStand tid rows i = (j : ℕ) → j < i → tid (rows j).location ≡ (rows j).id_first
 
+-- The vals of the first i operands hold the values that the first collect found.
 abbrev pub FirstsStand : {V : Type 0} → (val : ℕ → Cell V) → Rows V → ℕ → Type 0
 FirstsStand val rows i = (j : ℕ) → j < i → val (rows j).location ≡ Value (rows j).first
 
+-- Of the first i operands both collects found the same values.
 abbrev pub ValuesAgree : {V : Type 0} → Rows V → ℕ → Type 0
 ValuesAgree rows i = (j : ℕ) → j < i → (rows j).first ≡ (rows j).second
 
+-- Of the first i operands S6 and S9 found the same ids.
 abbrev pub IdsAgree : {V : Type 0} → Rows V → ℕ → Type 0
 IdsAgree rows i = (j : ℕ) → j < i → (rows j).id_first ≡ (rows j).id_second
 
@@ -112,5 +116,6 @@ LeftIn val tid p n (second_id F rows k f i) N =
 LeftIn val tid p n (swap a x u v t8 rows k f) N =
     Off a rows k × ((costs val rows k + 3 * k + 10 ≤ N) ⊎ ((val a ≡ id_cell p n) × (1 ≤ N)))
 
+-- Process p has at most N lines left, by its tag and its phase.
 abbrev pub Left : {V : Type 0} → (val tid : ℕ → Cell V) (p : ℕ) → Process V → ℕ → Type 0
 Left val tid p (proc n l b ph) N = LeftIn val tid p n ph N

@@ -83,5 +83,6 @@ pub record Agree {V : Type 0} (store : Store V) (operations : List (Finished V))
   pub ends_so : (end : Store V) → Replays store operations end → store_after_all store operations ≡ end
   pub replays : Lawful store operations → Replays store operations (store_after_all store operations)
 
+-- Both ways to replay say the same of every store and every list of operations.
 abbrev pub ReplaysAgree : Type 0 → Type 0
 ReplaysAgree V = (store : Store V) (operations : List (Finished V)) → Agree store operations

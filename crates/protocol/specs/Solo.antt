@@ -18,10 +18,12 @@ abbrev pub job_bound : {V : Type 0} → Job V → ℕ
 job_bound (for_ll a) = 10
 job_bound (for_kcss a x u rows m) = 16 * m + 11
 
+-- The bound where a SNAPSHOT of m operands is made, for itself or for a KCSS with m others than its first.
 abbrev pub purpose_bound : {V : Type 0} → Purpose V → ℕ → ℕ
 purpose_bound solo m = 12 * m + 1
 purpose_bound (inside a x u v t8) m = 16 * m + 11
 
+-- The bound in a phase: that of the operation that runs, and 0 if none does.
 abbrev pub phase_bound : {V : Type 0} → Phase V → ℕ
 phase_bound resting = 0
 phase_bound (reading a s) = 7
@@ -38,6 +40,7 @@ phase_bound (second_collect F rows m f i s) = purpose_bound F m
 phase_bound (second_id F rows m f i) = purpose_bound F m
 phase_bound (swap a x u v t8 rows m f) = 16 * m + 11
 
+-- The bound of a process, by its phase.
 abbrev pub bound : {V : Type 0} → Process V → ℕ
 bound (proc n l b ph) = phase_bound ph
 
@@ -59,6 +62,7 @@ PhaseFits (second_collect F rows m f i s) = PurposeFits F rows m × (i < m)
 PhaseFits (second_id F rows m f i) = PurposeFits F rows m × (i < m)
 PhaseFits (swap a x u v t8 rows m f) = Off a rows m
 
+-- A process fits if its phase does.
 abbrev pub Fits : {V : Type 0} → Process V → Type 0
 Fits (proc n l b ph) = PhaseFits ph
 
@@ -86,6 +90,7 @@ Alone {V = V} p (suc N) m =
 abbrev pub SoloEnds : Type 0 → Type 0
 SoloEnds V = (p N : ℕ) (m : Machine V) → Fits (m.processes p) → Alone p N m → N < bound (m.processes p)
 
+-- What remains falls, and a process that steps alone makes fewer lines than its bound that do not end its operation.
 pub record SoloBounds (V : Type 0) : Type 0 where
   pub measure : Falls V
   pub ends : SoloEnds V

@@ -55,6 +55,7 @@ PhaseSound saved p l (second_collect F rows k f i s) = Unlinked F l × ReadSound
 PhaseSound saved p l (second_id F rows k f i) = Unlinked F l
 PhaseSound saved p l (swap a x u v t8 rows k f) = l ≡ none
 
+-- A process is sound if its phase is, with its link.
 abbrev pub ProcessSound : {V : Type 0} → (saved : ℕ → Cell V) (p : ℕ) → Process V → Type 0
 ProcessSound saved p (proc n l b ph) = PhaseSound saved p l ph
 

@@ -19,6 +19,7 @@ pub record OneEvent {V : Type 0} (m : Machine V) (p : ℕ) (e : Event V) (r : Pr
   pub leads : world (turned m e p r) ≡ after e (world m)
   pub keeps : Keeps (m.processes p) r d
 
+-- Every line, at any step, of any process and in any machine, is such an event and keeps what was asked.
 abbrev pub LinesAreEvents : Type 0 → Type 0
 LinesAreEvents V = (t p : ℕ) (m : Machine V) (e : Event V) (r : Process V) (d : Option (Done V))
     → Line t p (world m) (m.processes p) e r d → OneEvent m p e r d

@@ -12,5 +12,6 @@ pub record Traces {V : Type 0} (run : Run V) : Type 0 where
   pub possible : (step : ℕ) → Possible (run.event step) (world (run.at step))
   pub leads : (step : ℕ) → world (run.at (suc step)) ≡ after (run.event step) (world (run.at step))
 
+-- Every run is a history: its worlds and events are as told here.
 abbrev pub RunsAreHistories : Type 0 → Type 0
 RunsAreHistories V = (run : Run V) → Traces run

@@ -21,12 +21,15 @@ turns i started [] = []
 turns i started (x ∷ rest) = item_line (i + 1) started x ++ turns (i + 1) (started_by x started) rest
 
 module _ {V : Type 0} (code : V → ℕ) where
+  -- the initial values: a heading, then a line for each location
   abbrev pub values_text : List V → List ℕ
   values_text values = codes "initial values\n" ++ numbered (λ i v. value_line i (code v)) 0 values
 
+  -- the operations: a heading, then a line for each in its turn
   abbrev pub operations_text : List (Op V) → List ℕ
   operations_text ops = codes "operations\n" ++ numbered (operation_line code) 0 ops
 
+-- the schedule: a heading, then a line for each turn
 abbrev pub script_text : List ScriptItem → List ℕ
 script_text items = codes "schedule\n" ++ turns 0 0 items
 
@@ -46,15 +49,19 @@ module _ {V : Type 0} (code : V → ℕ) (number : ℕ) where
 abbrev pub is_links : List ℕ → Bool
 is_links bytes = slice_index bytes 1 == 2
 
+-- what reading the bytes as a sheet of links answers
 abbrev pub links_answer : List ℕ → Result (Parts Link) SheetFault
 links_answer bytes = read_answer link_of bytes 2
 
+-- what reading the bytes as a sheet of numbers answers
 abbrev pub numbers_answer : List ℕ → Result (Parts Number) SheetFault
 numbers_answer bytes = read_answer number_of bytes 1
 
+-- the report on these bytes, read as the kind that their byte 1 tells
 unfoldable pub report_text : List ℕ → List ℕ
 report_text bytes = cond (is_links bytes) (answer_text link_code 2 (length bytes) (links_answer bytes)) (answer_text (λ v. v.value) 1 (length bytes) (numbers_answer bytes))
 
+-- whether reading these bytes, as the kind that their byte 1 tells, accepts them
 unfoldable pub is_accepted : List ℕ → Bool
 is_accepted bytes = cond (is_links bytes) (is_ok (links_answer bytes)) (is_ok (numbers_answer bytes))
 

@@ -17,7 +17,8 @@ pub(crate) fn written_again<V: ValueKind>(
     ensures { IfOk result (λ came. came.items ≡ bytes.now) }
 {
     let mut out = vec![in heap; 0u8; bytes.len()]?;
-    // A sheet that is refused has no bytes; that this one is written is proved.
+    // A sheet that is refused has no bytes, so 0 of them came; that this one is written is proved, so no error of its own
+    // stands for it.
     let long = sheet::write(sheet, out.as_mut_slice()).unwrap_or(0);
     out.truncate(long);
     Ok(out)

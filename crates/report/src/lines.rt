@@ -34,6 +34,7 @@ impl fmt::Display for Schedule<'_> {
 
     fn fmt<W: fmt::Write>(&self, f: &mut fmt::Formatter<W>) -> fmt::Result {
         writeln!(f, "schedule")?;
+        // This counts starts, and is no index.
         let mut started = 0usize;
         for (i, item) in self.0.iter().enumerate() {
             let turn = i + 1;

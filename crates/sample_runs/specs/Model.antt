@@ -45,6 +45,7 @@ pub record Running : Type 0 where
   pub marked : ℕ
   pub collected : ℕ
 
+-- a process: its tag, the location that it has a link to, if any, and the operation that it runs, if any
 pub record Process : Type 0 where
   pub tag : ℕ
   pub link : Option ℕ
@@ -74,19 +75,25 @@ pub record Machine : Type 0 where
   pub greatest_tag : ℕ
   pub trace : List Event
 
+-- A process starts an operation: its kind, each location with its expected value, if any, and its new value, if any.
+-- Or a process makes a step.
 pub data Command : Type 0 where
   start : ℕ → OperationKind → List (ℕ × Option ℕ) → Option ℕ → Command
   step : ℕ → Command
 
+-- the machine with an event at the end of its trace
 abbrev pub with_event : Machine → Event → Machine
 with_event m e = record { val = m.val; tid = m.tid; saved = m.saved; processes = m.processes; steps = m.steps; started = m.started; greatest_tag = m.greatest_tag; trace = m.trace ++ (e ∷ []) }
 
+-- the machine with one process changed
 abbrev pub with_process : Machine → ℕ → Process → Machine
 with_process m p q = record { val = m.val; tid = m.tid; saved = m.saved; processes = upd m.processes p q; steps = m.steps; started = m.started; greatest_tag = m.greatest_tag; trace = m.trace }
 
+-- the machine with one more step counted
 abbrev pub with_step : Machine → Machine
 with_step m = record { val = m.val; tid = m.tid; saved = m.saved; processes = m.processes; steps = suc m.steps; started = m.started; greatest_tag = m.greatest_tag; trace = m.trace }
 
+-- the machine with one more operation counted
 abbrev pub with_start : Machine → Machine
 with_start m = record { val = m.val; tid = m.tid; saved = m.saved; processes = m.processes; steps = m.steps; started = suc m.started; greatest_tag = m.greatest_tag; trace = m.trace }
 
@@ -96,29 +103,35 @@ cell_at m (Val a) = m.val a
 cell_at m (Tid a) = m.tid a
 cell_at m (Saved p) = m.saved p
 
+-- the machine with the cell at a place changed
 abbrev pub with_cell : Machine → Place → Cell ℕ → Machine
 with_cell m (Val a) c = record { val = upd m.val a c; tid = m.tid; saved = m.saved; processes = m.processes; steps = m.steps; started = m.started; greatest_tag = m.greatest_tag; trace = m.trace }
 with_cell m (Tid a) c = record { val = m.val; tid = upd m.tid a c; saved = m.saved; processes = m.processes; steps = m.steps; started = m.started; greatest_tag = m.greatest_tag; trace = m.trace }
 with_cell m (Saved p) c = record { val = m.val; tid = m.tid; saved = upd m.saved p c; processes = m.processes; steps = m.steps; started = m.started; greatest_tag = m.greatest_tag; trace = m.trace }
 
+-- what an access sees: a load finds the cell, a store only stores, a CAS says whether the old cell is there
 abbrev pub seen_by : Machine → Access ℕ → Seen ℕ
 seen_by m (Load place) = Found (cell_at m place)
 seen_by m (Store place c) = Stored
 seen_by m (Cas place old new) = Said (same code (cell_at m place) old)
 
+-- the machine after an access: a store puts its cell, a CAS puts the new one if the old one is there
 abbrev pub after_access : Machine → Access ℕ → Machine
 after_access m (Load place) = m
 after_access m (Store place c) = with_cell m place c
 after_access m (Cas place old new) = cond (same code (cell_at m place) old) (with_cell m place new) m
 
+-- what the operands have as first collected values
 abbrev pub firsts : List (Operand ℕ) → List (Option ℕ)
 firsts os = map (λ o. o.first) os
 
+-- what an operation comes to: the values that were first collected, yes, or no
 abbrev pub outcome : Answer → List (Operand ℕ) → Outcome
 outcome Values os = gave (firsts os)
 outcome Yes os = said_yes
 outcome No os = said_no
 
+-- the location of the first operand, if there is one
 abbrev pub location_of : List (Operand ℕ) → Option ℕ
 location_of [] = None
 location_of (o ∷ rest) = Some o.location
@@ -135,6 +148,7 @@ link_after Kcss os link = link
 abbrev pub noting : Running → ℕ → Finding ℕ → Running
 noting r now f = record { number = r.number; kind = r.kind; operands = recorded f r.operands; new = r.new; phase = r.phase; began = cond (r.began == 0) now r.began; marked = r.marked; collected = r.collected }
 
+-- a running operation in its next phase; the step is kept if it was an 8 that said yes or ended the first collect
 abbrev pub moved : Running → ℕ → Phase ℕ → Option Milestone → Running
 moved r now phase milestone = record { number = r.number; kind = r.kind; operands = r.operands; new = r.new; phase = phase; began = r.began; marked = marked_after milestone now r.marked; collected = collected_after milestone now r.collected }
 
@@ -151,6 +165,7 @@ abbrev pub turns : Machine → Machine → ℕ → Process → Running → Optio
 turns m n p q r None = with_event m (misfit p)
 turns m n p q r (Some t) = turned n p q r t
 
+-- a process with its tag raised by one
 abbrev pub raised : Process → Process
 raised q = record { tag = suc q.tag; link = q.link; running = q.running }
 
@@ -162,9 +177,11 @@ link_at_start Sc link = None
 link_at_start Snapshot link = link
 link_at_start Kcss link = link
 
+-- process 0 with tag 0, which stands for an id where none was found yet
 abbrev pub no_id : TaggedId
 no_id = record { process = 0; tag = 0 }
 
+-- the operands of a start: locations and expected values as given, and nothing found yet
 abbrev pub operands_of : List (ℕ × Option ℕ) → List (Operand ℕ)
 operands_of given =
     map (λ x. record { location = x.0; expected = x.1; first = None; second = None; first_id = no_id; second_id = no_id }) given
@@ -183,18 +200,22 @@ pub record Lines : Type 0 where
   pub finding : Phase ℕ → Seen ℕ → Option (Finding ℕ)
   pub turn : OperationKind → List (Operand ℕ) → Phase ℕ → Seen ℕ → Option (Turn ℕ)
 
+-- the lines as they are
 abbrev pub true_lines : Lines
 true_lines = record { finding = finding_of; turn = turn_of code }
 
 module _ (lines : Lines) where
+  -- what an access found is recorded and the turn follows; where the line finds nothing that fits, it is a misfit
   abbrev pub finds : Machine → Machine → ℕ → Process → Running → Seen ℕ → Option (Finding ℕ) → Machine
   finds m n p q r seen None = with_event m (misfit p)
   finds m n p q r seen (Some f) = turns m n p q (noting r n.steps f) (lines.turn r.kind (recorded f r.operands) r.phase seen)
 
+  -- the step is counted and its access made, and what that sees is taken up; where no access follows, it is a misfit
   abbrev pub accesses : Machine → ℕ → Process → Running → Option (Line × Access ℕ) → Machine
   accesses m p q r None = with_event m (misfit p)
   accesses m p q r (Some x) = finds m (after_access (with_step m) x.1) p q r (seen_by m x.1) (lines.finding r.phase (seen_by m x.1))
 
+  -- a running operation makes its next access, with the own id of its process
   abbrev pub goes : Machine → ℕ → Process → Running → Machine
   goes m p q r = accesses m p q r (next_access code (record { process = p; tag = q.tag }) r.kind r.operands r.new r.phase)
 
@@ -206,10 +227,12 @@ module _ (lines : Lines) where
       (cond (nat_lt q.tag m.greatest_tag) (goes m p (raised q) r) (with_event m (refused p 14)))
       (goes m p q r)
 
+  -- the machine after one command
   abbrev pub obey : Machine → Command → Machine
   obey m (start p kind given new) = starts m p (m.processes p) kind given new (m.processes p).running
   obey m (step p) = steps_in m p (m.processes p) (m.processes p).running
 
+  -- the machine after all commands of a script, in turn
   abbrev pub run : Machine → List Command → Machine
   run m [] = m
   run m (c ∷ rest) = run (obey m c) rest

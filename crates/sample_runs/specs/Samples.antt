@@ -30,18 +30,23 @@ steps_of p (suc n) rest = step p ∷ steps_of p n rest
 abbrev pub kcss : ℕ → ℕ → Command
 kcss x y = start 0 Kcss ((0, Some x) ∷ (1, Some y) ∷ []) (Some 9)
 
+-- READ of location 0 by this process
 abbrev pub read : ℕ → Command
 read p = start p Read ((0, None) ∷ []) None
 
+-- LL of location 0 by process 0
 abbrev pub ll : Command
 ll = start 0 Ll ((0, None) ∷ []) None
 
+-- SC of location 0 to 9 by process 0
 abbrev pub sc : Command
 sc = start 0 Sc ((0, None) ∷ []) (Some 9)
 
+-- SNAPSHOT of locations 0 and 1 by process 0
 abbrev pub snapshot : Command
 snapshot = start 0 Snapshot ((0, None) ∷ (1, None) ∷ []) None
 
+-- the machine after a script, with the true lines and 1000 as the greatest tag
 abbrev pub ran : List Command → Machine
 ran script = run true_lines (opening 1000) script
 
@@ -49,9 +54,11 @@ ran script = run true_lines (opening 1000) script
 abbrev pub KcssYes : Type 0
 KcssYes = (ran (kcss 5 7 ∷ steps_of 0 9 [])).trace ≡ ended 1 0 said_yes 1 6 9 ∷ []
 
+-- after the same run location 0 holds 9
 abbrev pub KcssYesFirst : Type 0
 KcssYesFirst = (ran (kcss 5 7 ∷ steps_of 0 9 [])).val 0 ≡ Value 9
 
+-- after the same run location 1 holds 7 as before
 abbrev pub KcssYesSecond : Type 0
 KcssYesSecond = (ran (kcss 5 7 ∷ steps_of 0 9 [])).val 1 ≡ Value 7
 
@@ -63,6 +70,7 @@ KcssNoSecond = (ran (kcss 5 8 ∷ steps_of 0 9 [])).trace ≡ ended 1 0 said_no 
 abbrev pub KcssNoFirst : Type 0
 KcssNoFirst = (ran (kcss 4 7 ∷ steps_of 0 9 [])).trace ≡ ended 1 0 said_no 1 3 9 ∷ []
 
+-- nobody comes between the LL and the SC, which says yes
 abbrev pub LlSc : Type 0
 LlSc = (ran (ll ∷ steps_of 0 4 (sc ∷ step 0 ∷ []))).trace
     ≡ ended 1 0 (gave (Some 5 ∷ [])) 1 3 4 ∷ ended 2 0 said_yes 5 5 5 ∷ []
@@ -72,6 +80,7 @@ abbrev pub LlReadSc : Type 0
 LlReadSc = (ran (ll ∷ steps_of 0 4 (read 1 ∷ steps_of 1 5 (sc ∷ step 0 ∷ [])))).trace
     ≡ ended 1 0 (gave (Some 5 ∷ [])) 1 3 4 ∷ ended 2 1 (gave (Some 5 ∷ [])) 5 9 9 ∷ ended 3 0 said_no 10 10 10 ∷ []
 
+-- nobody disturbs the SNAPSHOT, which gives 5 and 7 after eight steps, with its effect at the fourth
 abbrev pub SnapshotRest : Type 0
 SnapshotRest = (ran (snapshot ∷ steps_of 0 8 [])).trace ≡ ended 1 0 (gave (Some 5 ∷ Some 7 ∷ [])) 1 4 8 ∷ []
 
@@ -85,6 +94,7 @@ abbrev pub TagsSpent : Type 0
 TagsSpent = (run true_lines (opening 1) (ll ∷ steps_of 0 4 (sc ∷ step 0 ∷ ll ∷ step 0 ∷ []))).trace
     ≡ ended 1 0 (gave (Some 5 ∷ [])) 1 3 4 ∷ ended 2 0 said_yes 5 5 5 ∷ refused 0 14 ∷ []
 
+-- all the sample runs above
 pub record AllSamples : Type 0 where
   pub kcss_yes : KcssYes
   pub kcss_yes_first : KcssYesFirst

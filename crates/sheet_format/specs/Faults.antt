@@ -6,6 +6,7 @@ use Rattle.sheet_format.specs.declared.fault.SheetFault.{SheetFault}
 use Rattle.sheet_format.specs.declared.fault.ReadError.{ReadError}
 use Rattle.sheet_format.specs.declared.fault.ReadError.TheVariants.{Fault, NoMemory}
 
+-- each refusal's number: 20 to 26
 abbrev pub refusal_number : SheetRefusal → ℕ
 refusal_number WrongLength = 20
 refusal_number WrongHeader = 21
@@ -15,6 +16,7 @@ refusal_number WrongCode = 24
 refusal_number WrongScript = 25
 refusal_number ShortOutput = 26
 
+-- a refusal, with the place that it tells
 abbrev pub fault : SheetRefusal → ℕ → SheetFault
 fault why at = record { refusal = why; place = at }
 
@@ -32,6 +34,7 @@ abbrev pub in_front : {X : Type 0} → X → Result (List X) SheetFault → Resu
 in_front x (Ok xs) = Ok (x ∷ xs)
 in_front x (Err f) = Err f
 
+-- an item that may be refused, in front of the others: its refusal comes before theirs
 abbrev pub followed : {X : Type 0} → Result X SheetFault → Result (List X) SheetFault → Result (List X) SheetFault
 followed (Ok x) rest = in_front x rest
 followed (Err f) rest = Err f
@@ -42,6 +45,7 @@ abbrev pub Refuses : {Y : Type 0} → ReadError → Result Y SheetFault → Type
 Refuses (Fault f) answer = answer ≡ Err f
 Refuses NoMemory answer = Unit {0}
 
+-- what the code has read is what the rules give, seen through `view`; its error is one that `Refuses` allows
 abbrev pub Reads : {X Y : Type 0} → (X → Y) → Result X ReadError → Result Y SheetFault → Type 0
 Reads view (Ok x) answer = answer ≡ Ok (view x)
 Reads view (Err e) answer = Refuses e answer
@@ -51,6 +55,7 @@ abbrev pub Wants : ReadError → Type 0 → Type 0
 Wants (Fault f) kept = Unit {0}
 Wants NoMemory kept = kept
 
+-- an answer may be want of memory only where `kept` holds
 abbrev pub NeedsMemory : {X : Type 0} → Result X ReadError → Type 0 → Type 0
 NeedsMemory (Ok x) kept = Unit {0}
 NeedsMemory (Err e) kept = Wants e kept

@@ -10,6 +10,7 @@ use Rattle.sheet_format.specs.Bytes.{bytes_of}
 use Rattle.operation.specs.Kinds.{kind_number}
 use Rattle.sheet_format.specs.Parts.{Act, read, ll, sc, snapshot, kcss, Op, Parts}
 
+-- the kind of an operation, from what it is to do
 abbrev pub act_kind : {V : Type 0} → Act V → OperationKind
 act_kind (read a) = Read
 act_kind (ll a) = Ll
@@ -29,6 +30,7 @@ act_count (kcss v operands) = length operands
 abbrev pub size_by : ℕ → ℕ
 size_by count = 12 + 10 * count
 
+-- how many bytes these operations take together
 abbrev pub sizes : {V : Type 0} → List (Op V) → ℕ
 sizes [] = 0
 sizes (o ∷ rest) = size_by (act_count o.act) + sizes rest
@@ -37,9 +39,11 @@ sizes (o ∷ rest) = size_by (act_count o.act) + sizes rest
 abbrev pub operations_at : {V : Type 0} → Parts V → ℕ
 operations_at p = 24 + 8 * length p.initial
 
+-- the script begins where the operations end
 abbrev pub script_at : {V : Type 0} → Parts V → ℕ
 script_at p = operations_at p + sizes p.operations
 
+-- the whole length: the script comes last, with one byte for each item
 abbrev pub total : {V : Type 0} → Parts V → ℕ
 total p = script_at p + length p.script
 
@@ -61,12 +65,15 @@ module _ {V : Type 0} (code : V → ℕ) where
   new_code (snapshot locations) = 0
   new_code (kcss v operands) = code v
 
+  -- an operand of any kind but KCSS: its location, and zero for the expected code, which is not used
   abbrev pub location_bytes : ℕ → List ℕ
   location_bytes a = operand_bytes a 0
 
+  -- an operand of a KCSS: its location, and the code of its expected value
   abbrev pub expected_bytes : Operand V → List ℕ
   expected_bytes o = operand_bytes o.location (code o.expected)
 
+  -- the operands in their order: one of a READ, an LL or an SC, all of a SNAPSHOT or a KCSS
   abbrev pub operands_bytes : Act V → List ℕ
   operands_bytes (read a) = location_bytes a
   operands_bytes (ll a) = location_bytes a
@@ -78,6 +85,7 @@ module _ {V : Type 0} (code : V → ℕ) where
   unfoldable pub op_bytes : Op V → List ℕ
   op_bytes o = kind_number (act_kind o.act) ∷ o.process ∷ act_count o.act ∷ 0 ∷ (bytes_of 8 (new_code o.act) ++ operands_bytes o.act)
 
+  -- an initial value is its code in 8 bytes
   abbrev pub value_bytes : V → List ℕ
   value_bytes v = bytes_of 8 (code v)
 
@@ -86,5 +94,6 @@ module _ {V : Type 0} (code : V → ℕ) where
   header_bytes number p = 1 ∷ number ∷ (bytes_of 2 (length p.initial) ++ (bytes_of 2 p.processes ++ (bytes_of 2 (length p.script)
       ++ (bytes_of 4 24 ++ (bytes_of 4 (operations_at p) ++ (bytes_of 4 (script_at p) ++ bytes_of 4 (total p)))))))
 
+  -- the header, the initial values, the operations, then the script
   unfoldable pub sheet_bytes : ℕ → Parts V → List ℕ
   sheet_bytes number p = header_bytes number p ++ (flat_map value_bytes p.initial ++ (flat_map op_bytes p.operations ++ map item_byte p.script))

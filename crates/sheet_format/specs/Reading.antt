@@ -17,6 +17,7 @@ use Rattle.sheet_format.specs.Faults.{fault, require, then, followed}
 use Rattle.sheet_format.specs.Parts.{Act, read, ll, sc, snapshot, kcss, Op, Parts}
 use Rattle.sheet_format.specs.Format.{size_by}
 
+-- whether n is at least `low` and at most `high`
 abbrev pub within : ℕ → ℕ → ℕ → Bool
 within low high n = nat_le low n && nat_le n high
 
@@ -26,6 +27,7 @@ starts [] = 0
 starts (Start ∷ rest) = 1 + starts rest
 starts (Step p ∷ rest) = starts rest
 
+-- a byte below 32 steps that process, 255 starts the next operation; no other byte has a meaning
 abbrev pub item_of : ℕ → Option ScriptItem
 item_of b = cond (nat_lt b 32) (Some (Step b)) (cond (b == 255) (Some Start) None)
 
@@ -80,7 +82,7 @@ module _ (bytes : List ℕ) where
   unused at zero = true
   unused at (suc n) = field bytes (at + 2) 8 == 0 && unused (at + 10) n
 
-  -- the locations of so many operands
+  -- the locations of so many operands; reading them refuses nothing, so they are no row that may be refused
   unfoldable pub locations_from : ℕ → ℕ → List ℕ
   locations_from at zero = []
   locations_from at (suc n) = field bytes at 2 ∷ locations_from (at + 10) n
@@ -94,11 +96,13 @@ module _ (bytes : List ℕ) where
       && ((takes_new kind || field bytes (at + 4) 8 == 0)
       && (takes_expected kind || unused (at + 12) (slice_index bytes (at + 2))))))
 
+  -- 23 at the start where the kind is unknown or the head does not fit it; else the head
   abbrev pub head_by : ℕ → ℕ → Option OperationKind → Result OperationHead SheetFault
   head_by at end None = Err (fault WrongOperation at)
   head_by at end (Some kind) = require (head_fits at end kind) (fault WrongOperation at)
       (Ok (record { kind = kind; process = slice_index bytes (at + 1); count = slice_index bytes (at + 2) }))
 
+  -- 23 also where the first 12 bytes run past `end`; else the head of the kind that the first byte names
   unfoldable pub head_answer : ℕ → ℕ → Result OperationHead SheetFault
   head_answer at end = require (nat_le (at + 12) end) (fault WrongOperation at) (head_by at end (kind_of (slice_index bytes at)))
 
@@ -106,6 +110,7 @@ module _ (bytes : List ℕ) where
   abbrev pub item_answer : ℕ → Result ScriptItem SheetFault
   item_answer at = ok_or (item_of (slice_index bytes at)) (fault WrongScript at)
 
+  -- so many script items from `at` on, one byte each
   abbrev pub script_answer : ℕ → ℕ → Result (List ScriptItem) SheetFault
   script_answer = row_answer item_answer 1
 
@@ -122,6 +127,7 @@ module _ {V : Type 0} (decode : ℕ → Option V) (bytes : List ℕ) where
   abbrev pub operand_answer : ℕ → Result (Operand V) SheetFault
   operand_answer at = then (value_answer (at + 2)) (λ v. Ok (record { location = field bytes at 2; expected = v }))
 
+  -- so many operands from `at` on, 10 bytes each
   abbrev pub operands_answer : ℕ → ℕ → Result (List (Operand V)) SheetFault
   operands_answer = row_answer operand_answer 10
 
@@ -133,9 +139,11 @@ module _ {V : Type 0} (decode : ℕ → Option V) (bytes : List ℕ) where
   action_by at Snapshot count = Ok (snapshot (locations_from bytes (at + 12) count))
   action_by at Kcss count = then (value_answer (at + 4)) (λ v. then (operands_answer (at + 12) count) (λ os. Ok (kcss v os)))
 
+  -- the operation at `at` whose head this is: the head's process, and what it is to do
   abbrev pub action_answer : ℕ → OperationHead → Result (Op V) SheetFault
   action_answer at head = then (action_by at head.kind head.count) (λ a. Ok (record { process = head.process; act = a }))
 
+  -- the operation that starts at `at`: its head is tested first, then its codes
   unfoldable pub operation_answer : ℕ → ℕ → Result (Op V) SheetFault
   operation_answer end at = then (head_answer bytes at end) (action_answer at)
 
@@ -150,6 +158,7 @@ module _ {V : Type 0} (decode : ℕ → Option V) (bytes : List ℕ) where
   joined_answer h values ops items = require (starts items == length ops) (fault WrongScript (length bytes))
       (Ok (record { initial = values; processes = h.processes; operations = ops; script = items }))
 
+  -- what comes after the header: the initial values, the operations, then the script; the first refusal decides
   unfoldable pub body_answer : Header → Result (Parts V) SheetFault
   body_answer h =
       then (values_answer 24 h.locations) (λ values.
@@ -157,6 +166,7 @@ module _ {V : Type 0} (decode : ℕ → Option V) (bytes : List ℕ) where
       then (script_answer bytes h.script h.items) (λ items.
       joined_answer h values ops items)))
 
+  -- the header is tested first, then what comes after it
   unfoldable pub read_answer : ℕ → Result (Parts V) SheetFault
   read_answer number = then (header_answer bytes number) body_answer
 

@@ -7,6 +7,7 @@ use Rattle.sheet_format.specs.declared.fault.ReadError.{ReadError}
 use Rattle.sheet_format.specs.declared.fault.ReadError.TheVariants.{Fault, NoMemory}
 use Rattle.sheet_format.specs.Faults.{refusal_number}
 
+-- what is wrong, for each refusal
 abbrev pub refusal_words : SheetRefusal → List ℕ
 refusal_words WrongLength = codes "the sheet is shorter than its header or not as long as it says"
 refusal_words WrongHeader = codes "version, kind, number of locations, processes or script items is not allowed"
@@ -21,6 +22,7 @@ abbrev pub fault_line : SheetFault → List ℕ
 fault_line f = codes "layer " ++ (decimal 3 ++ (codes ", number " ++ (decimal (refusal_number f.refusal)
     ++ (codes ", place " ++ (decimal f.place ++ (codes ": " ++ refusal_words f.refusal))))))
 
+-- a fault's line, or that no memory is left
 abbrev pub error_line : ReadError → List ℕ
 error_line (Fault f) = fault_line f
 error_line NoMemory = codes "no memory is left to hold the sheet"

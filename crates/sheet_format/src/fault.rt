@@ -20,7 +20,7 @@ pub enum SheetRefusal {
     ShortOutput = 26,
 }
 
-// The number of a refusal.
+// The number of a refusal, which `as` takes from the enum.
 impl From<SheetRefusal> for u8 {
     ghost from_gives = { λ refusal number. number ≡ refusal_number refusal };
 
@@ -51,7 +51,8 @@ impl fmt::Display for SheetRefusal {
     }
 }
 
-// A refusal of layer 3 and its place.
+// A refusal of layer 3 and its place. The rules give each layer a fault type of its own, so this one and that of memories
+// are two, alike but for their refusals and their layer.
 #[derive(Clone, Copy, Debug, PartialEq, Eq)]
 pub struct SheetFault {
     pub refusal: SheetRefusal,
@@ -66,7 +67,7 @@ impl SheetFault {
         SheetFault { refusal, place }
     }
 
-    // The layer that refused.
+    // The layer that refused, by the number that the rules give it.
     pub fn layer(&self) -> u8
         ensures { result ≡ 3 }
     {

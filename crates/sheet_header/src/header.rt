@@ -42,7 +42,7 @@ fn require(holds: bool, refusal: SheetRefusal, place: usize) -> Result<(), Sheet
     }
 }
 
-// The header, if it is right for a sheet of this length and kind.
+// The header, if it is right for a sheet of this length and of the kind with this number.
 fn judge_header(raw: &RawHeader, length: usize, kind_number: u8) -> Result<Header, SheetFault>
     ensures answer { result ≡ header_by raw.now length kind_number }
     ensures placed { IfOk result (λ h. Placed length h) }

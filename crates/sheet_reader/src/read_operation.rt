@@ -1,4 +1,5 @@
-// Reading one operation: its head, and then what it is to do.
+// Reading one operation: its head, and then what it is to do. Where the script begins, `end`, goes along as a number: the
+// bytes cut off there would be other bytes, and each answer would have to be told of those too.
 ghost use Rattle.std.specs.Prelude.{◌≡◌, ◌+◌, ◌*◌, ◌≤◌, length, IfOk, slice_index};
 ghost use Rattle.sheet_format.specs.Faults.{Reads};
 ghost use Rattle.sheet_format.specs.Format.{size_by};

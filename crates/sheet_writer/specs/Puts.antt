@@ -7,9 +7,11 @@ use Rattle.sheet_writer.specs.declared.output.Output.{Output}
 abbrev pub written : Output → List ℕ
 written o = take o.at o.bytes.now
 
+-- the bytes from the next one's place on
 abbrev pub left : Output → List ℕ
 left o = drop o.at o.bytes.now
 
+-- the bytes fit into the output from the next one's place on
 pub record Room (o : Output) (bytes : List ℕ) : Type 0 where
   pub holds : o.at + length bytes ≤ length o.bytes.now
 

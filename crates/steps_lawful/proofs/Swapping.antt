@@ -1,5 +1,5 @@
 -- The 11 of an SC and of a KCSS: each step of the code is a line.
-use Rattle.std.proofs.Common.{◌≡◌, ℕ, zero, suc, ◌<◌, Bool, true, false, cond, List, [], ◌∷◌, length, Some, refl, arith}
+use Rattle.std.proofs.Common.{◌≡◌, ℕ, zero, suc, ◌<◌, Bool, true, false, cond, List, [], ◌∷◌, length, Some, refl, ◌∙◌, arith}
 use mathlib.Core.Option as maybe
 use Rattle.std.proofs.lemmas.Bool.{lt-ltb, le-ltb}
 use Rattle.operation.specs.declared.kind.OperationKind.TheVariants.{Sc, Kcss}
@@ -27,9 +27,9 @@ use Rattle.steps_lawful.proofs.Comparing.{met_rows, unmet_row}
 use Rattle.steps_lawful.proofs.Asking.{asked_kcss}
 
 -- with other operands, the step that ended the first collect is the code's
-ended : (k c g : ℕ) → 0 < k → g ≡ collected_at k c → g ≡ c
-ended zero c g h e = absurd (omega arith)
-ended (suc k) c g h e = e
+pub ended : (k c : ℕ) → 0 < k → collected_at k c ≡ c
+ended zero c h = absurd (omega arith)
+ended (suc k) c h = refl
 
 module _ {V : Type 0} (code : V → ℕ) (one : (x y : V) → code x ≡ code y → x ≡ y) (N : Type 0) (t p n b : ℕ) (w : World V) (o : Operand V)
     (rest : List (Operand V)) (x u v : V) (rows : Rows V) (m c g : ℕ) (f : Bool) (ex : o.expected ≡ Some x) (fi : o.first ≡ Some v) where
@@ -70,7 +70,7 @@ module _ {V : Type 0} (code : V → ℕ) (one : (x y : V) → code x ≡ code y 
   steps_by k fits at true false q r =
       let z = same_true code one o.first o.expected v x fi ex q in
       let d = unmet_row code one fits r in
-      let s = ended k c g (omega arith) at in
+      let s = at ∙ ended k c (omega arith) in
       rw (writes false (rw (q, r) refl)) (
         (λ e. rw (q, r) (_, _, _, kcss_other z d.1 d.2 e, refl, (_, _, refl, asked_kcss ex fits, refl, rw s refl))),
         (λ h. rw (q, r) (_, _, _, kcss_other_gone z d.1 d.2 h, refl, (_, _, refl, asked_kcss ex fits, refl, rw s refl))),

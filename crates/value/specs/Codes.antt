@@ -5,6 +5,7 @@ use Rattle.value.specs.declared.number.Number.{Number}
 use Rattle.value.specs.declared.link.Link.{Link}
 use Rattle.value.specs.declared.link.Link.TheVariants.{Nothing, To}
 
+-- the number c, once it is decided whether c lies below 2^63: none where it does not
 abbrev pub number_by : (c : ℕ) → Dec (c < 2 ^ 63) → Option Number
 number_by c (yes p) = Some (record { value = c; small = p })
 number_by c (no _) = None
@@ -18,11 +19,13 @@ abbrev pub link_code : Link → ℕ
 link_code Nothing = 0
 link_code (To n) = 2 * n.number + cond n.deleted 1 0
 
+-- node c / 2 with mark c % 2, once it is decided whether c / 2 is above 0 and below 65,536: else none
 abbrev pub node_by : (c : ℕ) → Dec (0 < c / 2) → Dec (c / 2 < 65536) → Option Link
 node_by c (yes p) (yes q) = Some (To (record { number = c / 2; deleted = (c % 2 == 1); named = p; fits = q }))
 node_by c (yes p) (no _) = None
 node_by c (no _) d = None
 
+-- nothing where c is decided to lie below 1; else the node of code c, or none
 abbrev pub link_by : (c : ℕ) → Dec (c < 1) → Option Link
 link_by c (yes _) = Some Nothing
 link_by c (no _) = node_by c (dec_lt 0 (c / 2)) (dec_lt (c / 2) 65536)

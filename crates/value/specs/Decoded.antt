@@ -1,3 +1,5 @@
+-- That the code of a number or a link gives that value back, and that codes past the greatest give none.
+-- The laws of the two kinds cite number_at, link_at and nothing_at.
 use Rattle.std.specs.Prelude.{◌≡◌, ℕ, ◌+◌, ◌*◌, ◌/◌, ◌%◌, ◌^◌, ◌<◌, ◌≤◌, Bool, cond, Some, None, ◌==◌, refl}
 use Rattle.std.proofs.Common.{ap, subst, arith}
 use Rattle.std.proofs.Math.Bridge.{le_prop}
@@ -11,6 +13,7 @@ number_by_at : (c : ℕ) (d : Dec (c < 2 ^ 63)) (p : c < 2 ^ 63) → number_by c
 number_by_at c (yes q) p = ap (λ (x : c < 2 ^ 63). Some (record { value = c; small = x })) (le_prop q p)
 number_by_at c (no n) p = absurd (n p)
 
+-- a code below 2^63 gives the number of that value
 pub number_at : (c : ℕ) (p : c < 2 ^ 63) → number_of c ≡ Some (record { value = c; small = p })
 number_at c p = number_by_at c (dec_lt c (2 ^ 63)) p
 
@@ -18,6 +21,7 @@ number_by_past : (c : ℕ) (d : Dec (c < 2 ^ 63)) → 2 ^ 63 ≤ c → number_by
 number_by_past c (yes q) h = absurd (omega arith)
 number_by_past c (no n) h = refl
 
+-- a code from 2^63 on gives no number
 pub number_past : (c : ℕ) → 2 ^ 63 ≤ c → number_of c ≡ None
 number_past c h = number_by_past c (dec_lt c (2 ^ 63)) h
 
@@ -36,13 +40,16 @@ node_by_at c (yes x) (yes y) n b p q h = ap Some (node_ext (c / 2) n (c % 2 == 1
 node_by_at c (yes x) (no y) n b p q h = absurd (y (grind (arith, nat_tests)))
 node_by_at c (no x) e n b p q h = absurd (x (grind (arith, nat_tests)))
 
+-- the code 2 * number + mark gives the node of that number, which is from 1 to 65,535, with that mark
 pub link_at : (c : ℕ) (n : ℕ) (b : Bool) (p : 0 < n) (q : n < 65536) → c ≡ 2 * n + cond b 1 0 → link_of c ≡ Some (To (record { number = n; deleted = b; named = p; fits = q }))
 unfolding made_node
 link_at c n b p q h = elim (dec_lt c 1) as (λ d. link_by c d ≡ Some (made_node n b p q)) [ yes x ↦ absurd (omega arith) | no x ↦ node_by_at c (dec_lt 0 (c / 2)) (dec_lt (c / 2) 65536) n b p q h ]
 
+-- code 0 gives the link that is nothing
 pub nothing_at : link_of 0 ≡ Some Nothing
 nothing_at = elim (dec_lt 0 1) as (λ d. link_by 0 d ≡ Some Nothing) [ yes x ↦ refl | no x ↦ absurd (x (omega arith)) ]
 
+-- a code past 131,071 gives no link
 pub link_past : (c : ℕ) → 131071 < c → link_of c ≡ None
 link_past c h = elim (dec_lt c 1) as (λ d. link_by c d ≡ None) [
   | yes x ↦ absurd (omega arith)

@@ -1,7 +1,7 @@
 // The values of kind 2.
 ghost use Rattle.std.specs.Prelude.{◌<◌};
 
-// A node from 1 to 65,535 with its deleted mark.
+// A node from 1 to 65,535 with its deleted mark. The mark says something of every node, so it is no Option.
 #[derive(Clone, Copy, Debug, PartialEq, Eq)]
 pub struct Node {
     pub number: u16,
