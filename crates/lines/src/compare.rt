@@ -7,11 +7,12 @@ ghost use Rattle.lines.specs.Comparing.{same_values, still, meets};
 use phases::Operand;
 use value::ValueKind;
 
-// Whether both hold the same value; nothing is the same as nothing that is not there.
+// Whether both hold the same value; nothing is the same as nothing that is not there. By `same`, since a kind need not
+// have `==`.
 fn same_values<V: ValueKind>(a: Option<V>, b: Option<V>) -> bool
     ensures { result ≡ same_values V.coded a b }
 {
-    a.zip(b).is_some_and(|(x, y)| x == y)
+    a.zip(b).is_some_and(|(x, y)| x.same(&y))
 }
 
 // Whether both ids and both values of an operand are the same.

@@ -22,6 +22,7 @@ use Rattle.protocol.specs.Phases.{Phase, Process, Done}
 use Rattle.line_views.specs.View.{Running, Cells, Performing}
 use Rattle.line_views.specs.View.Running.{runs}
 use Rattle.line_views.specs.Steps.{Showing, Leads, Goes, Steps, MakesLines}
+use Rattle.steps_lawful.proofs.Stepping.{MakesLinesOf}
 
 -- the operation is of this kind, and the number of its operands is as Count says
 abbrev pub Of : {V : Type 0} → OperationKind → (ℕ → Type 0) → Running V → Type 0
@@ -96,9 +97,13 @@ module _ {V : Type 0} (code : V → ℕ) {S T : Showing V} {kind : OperationKind
         given (next_access code (record { process = p; tag = raised phase n }) kind operands new phase)
         (λ next. performed w next.1 (goes w ph))
 
-  pub carried : MakesLines code S → MakesLines code T
-  carried lines t p n b l w (runs own operands new phase m c f) ph tagged shows =
+  -- the steps of the operations of this kind are enough
+  pub carried_of : MakesLinesOf kind code S → MakesLines code T
+  carried_of lines t p n b l w (runs own operands new phase m c f) ph tagged shows =
       let z = restricts.into shows in
-      let s = lines t p n b l w (runs own operands new phase m c f) ph tagged z.0 in
+      let s = lines t p n b l w (runs own operands new phase m c f) ph z.1.0 tagged z.0 in
       subst (λ (own : OperationKind). Steps S t p n b l code (Unit {0}) w (runs own operands new phase m c f) ph
       → Steps T t p n b l code (Unit {0}) w (runs own operands new phase m c f) ph) (sym z.1.0) (steps t p n b l operands new phase m c f z.1.1 w ph) s
+
+  pub carried : MakesLines code S → MakesLines code T
+  carried lines = carried_of (λ t p n b l w running ph own. lines t p n b l w running ph)

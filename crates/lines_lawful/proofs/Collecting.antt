@@ -8,13 +8,15 @@ use Rattle.protocol.specs.Phases.{Phase, Rows}
 use Rattle.protocol.specs.Phases.Purpose.{solo}
 use Rattle.line_views.specs.View.{Running}
 use Rattle.line_views.specs.View.Running.{runs}
+use Rattle.line_views.specs.Steps.{MakesLines}
 use Rattle.steps_lawful.specs.Showing.{CollectPhase, Shows}
 use Rattle.steps_lawful.specs.Showing.Collects.{collects_snapshot}
 use Rattle.steps_lawful.specs.Showing.CollectPhase.{at_s6, at_first, at_second, at_s9}
 use Rattle.steps_lawful.specs.Showing.Shows.{shows_link, shows_collect}
+use Rattle.steps_lawful.proofs.Stepping.{makes_lines_by}
 use Rattle.lines_lawful.specs.Collecting.{Fits, ShowsSnapshot}
 use Rattle.lines_lawful.specs.Collecting.ShowsSnapshot.{shows_first_id, shows_first_collect, shows_second_collect, shows_second_id}
-use Rattle.lines_lawful.proofs.Carrying.{Of, Any, Restricts}
+use Rattle.lines_lawful.proofs.Carrying.{Of, Any, Restricts, carried}
 use Rattle.lines_lawful.proofs.Parts.{all_into, all_back}
 
 module _ {V : Type 0} where
@@ -45,3 +47,7 @@ module _ {V : Type 0} where
 
   pub snapshots : Restricts {V = V} Shows ShowsSnapshot Snapshot Any
   snapshots = record { into = into; back = back }
+
+-- each step of a SNAPSHOT is a line, where no two values have one code
+pub snapshot_lines : {V : Type 0} (code : V → ℕ) → ((x y : V) → code x ≡ code y → x ≡ y) → MakesLines code ShowsSnapshot
+snapshot_lines code one = carried code snapshots (makes_lines_by code one)

@@ -10,6 +10,7 @@ use Rattle.protocol.specs.Phases.Job.{for_kcss}
 use Rattle.protocol.specs.Phases.Purpose.{inside}
 use Rattle.line_views.specs.View.{Running}
 use Rattle.line_views.specs.View.Running.{runs}
+use Rattle.line_views.specs.Steps.{MakesLines}
 use Rattle.steps_lawful.specs.Showing.{LinkPhase, CollectPhase, Shows}
 use Rattle.steps_lawful.specs.Showing.Links.{links_kcss}
 use Rattle.steps_lawful.specs.Showing.Collects.{collects_kcss}
@@ -17,12 +18,13 @@ use Rattle.steps_lawful.specs.Showing.LinkPhase.{at_attempt, at_again, at_read, 
 use Rattle.steps_lawful.specs.Showing.CollectPhase.{at_s6, at_first, at_second, at_s9}
 use Rattle.steps_lawful.specs.Showing.Shows.{shows_link, shows_collect, shows_swap}
 use Rattle.steps_lawful.proofs.Swapping.{ended}
+use Rattle.steps_lawful.proofs.Stepping.{makes_lines_by}
 use Rattle.lines_lawful.specs.Collecting.{Fits}
 use Rattle.lines_lawful.specs.Single.{single}
 use Rattle.lines_lawful.specs.Several.{Wanted, ShowsKcss}
 use Rattle.lines_lawful.specs.Several.ShowsKcss.{kcss_attempt, kcss_again, kcss_linking, kcss_save, kcss_mark, kcss_note, kcss_swap}
 use Rattle.lines_lawful.specs.Several.ShowsKcss.{kcss_first_id, kcss_first_collect, kcss_second_collect, kcss_second_id}
-use Rattle.lines_lawful.proofs.Carrying.{Of, More, Restricts}
+use Rattle.lines_lawful.proofs.Carrying.{Of, More, Restricts, carried}
 use Rattle.lines_lawful.proofs.Parts.{rest_into, rest_back, wanted_back, as_single, as_found}
 
 module _ {V : Type 0} {x u : V} {two : Option V} {i₀ j₀ : TaggedId} {ops : List (Operand V)} {rows : Rows V} {place k m c : ℕ} where
@@ -85,3 +87,7 @@ module _ {V : Type 0} where
 
   pub kcsses : Restricts {V = V} Shows ShowsKcss Kcss More
   kcsses = record { into = into; back = back }
+
+-- each step of a KCSS of two or more locations is a line, where no two values have one code
+pub kcss_lines : {V : Type 0} (code : V → ℕ) → ((x y : V) → code x ≡ code y → x ≡ y) → MakesLines code ShowsKcss
+kcss_lines code one = carried code kcsses (makes_lines_by code one)

@@ -8,15 +8,17 @@ use Rattle.protocol.specs.Phases.{Phase}
 use Rattle.protocol.specs.Phases.Job.{for_ll}
 use Rattle.line_views.specs.View.{Running}
 use Rattle.line_views.specs.View.Running.{runs}
+use Rattle.line_views.specs.Steps.{MakesLines}
 use Rattle.steps_lawful.specs.Showing.{LinkPhase, Shows}
 use Rattle.steps_lawful.specs.Showing.Links.{links_ll}
 use Rattle.steps_lawful.specs.Showing.LinkPhase.{at_attempt, at_again, at_read, at_7, at_8, at_9}
 use Rattle.steps_lawful.specs.Showing.Shows.{shows_read, shows_link, shows_sc, shows_collect}
+use Rattle.steps_lawful.proofs.Stepping.{makes_lines_of}
 use Rattle.lines_lawful.specs.Showing.{ShowsRead, ShowsLl, ShowsSc}
 use Rattle.lines_lawful.specs.Showing.ShowsRead.{shows_reading}
 use Rattle.lines_lawful.specs.Showing.ShowsLl.{shows_attempt, shows_again, shows_linking, shows_save, shows_mark, shows_note}
 use Rattle.lines_lawful.specs.Showing.ShowsSc.{shows_swap}
-use Rattle.lines_lawful.proofs.Carrying.{Of, Any, Restricts}
+use Rattle.lines_lawful.proofs.Carrying.{Of, Any, Restricts, carried_of}
 
 module _ {V : Type 0} where
   read_into : {running : Running V} {l : maybe.Option ℕ} {ph : Phase V} → ShowsRead running l ph → Shows running l ph × Of Read Any running
@@ -67,3 +69,16 @@ module _ {V : Type 0} where
 
   pub scs : Restricts {V = V} Shows ShowsSc Sc Any
   scs = record { into = sc_into; back = sc_back }
+
+module _ {V : Type 0} (code : V → ℕ) where
+  -- each step of a READ is a line, whatever the code
+  pub read_lines : MakesLines code ShowsRead
+  read_lines = carried_of code reads (makes_lines_of code Read (λ h. absurd h))
+
+  -- each step of an LL
+  pub ll_lines : MakesLines code ShowsLl
+  ll_lines = carried_of code lls (makes_lines_of code Ll (λ h. absurd h))
+
+  -- the step of an SC
+  pub sc_lines : MakesLines code ShowsSc
+  sc_lines = carried_of code scs (makes_lines_of code Sc (λ h. absurd h))

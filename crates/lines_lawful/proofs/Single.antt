@@ -1,5 +1,5 @@
 -- KCSS of one location: its states are those of the relation of all kinds.
-use Rattle.std.proofs.Common.{ℕ, zero, suc, Bool, List, [], ◌∷◌, length, Some, Option, refl, arith}
+use Rattle.std.proofs.Common.{◌≡◌, ℕ, zero, suc, Bool, List, [], ◌∷◌, length, Some, Option, refl, arith}
 use mathlib.Core.Option as maybe
 use Rattle.memory.specs.declared.cell.TaggedId.{TaggedId}
 use Rattle.operation.specs.declared.kind.OperationKind.TheVariants.{Kcss}
@@ -10,14 +10,16 @@ use Rattle.protocol.specs.Phases.Job.{for_kcss}
 use Rattle.protocol.proofs.Changes.{clash}
 use Rattle.line_views.specs.View.{Running}
 use Rattle.line_views.specs.View.Running.{runs}
+use Rattle.line_views.specs.Steps.{MakesLines}
 use Rattle.steps_lawful.specs.Showing.{Fits, LinkPhase, Shows}
 use Rattle.steps_lawful.specs.Showing.Links.{links_kcss}
 use Rattle.steps_lawful.specs.Showing.Collects.{collects_kcss}
 use Rattle.steps_lawful.specs.Showing.LinkPhase.{at_attempt, at_again, at_read, at_7, at_8, at_9}
 use Rattle.steps_lawful.specs.Showing.Shows.{shows_link, shows_collect, shows_swap}
+use Rattle.steps_lawful.proofs.Stepping.{makes_lines_by}
 use Rattle.lines_lawful.specs.Single.{single, ShowsSingle}
 use Rattle.lines_lawful.specs.Single.ShowsSingle.{single_attempt, single_again, single_linking, single_save, single_mark, single_note, single_swap}
-use Rattle.lines_lawful.proofs.Carrying.{Of, One, Restricts}
+use Rattle.lines_lawful.proofs.Carrying.{Of, One, Restricts, carried}
 use Rattle.lines_lawful.proofs.Parts.{rest_into, as_single, as_found}
 
 module _ {V : Type 0} where
@@ -61,3 +63,7 @@ module _ {V : Type 0} where
 
   pub singles : Restricts {V = V} Shows ShowsSingle Kcss One
   singles = record { into = into; back = back }
+
+-- each step of a KCSS of one location is a line, where no two values have one code
+pub single_kcss_lines : {V : Type 0} (code : V → ℕ) → ((x y : V) → code x ≡ code y → x ≡ y) → MakesLines code ShowsSingle
+single_kcss_lines code one = carried code singles (makes_lines_by code one)

@@ -1,12 +1,21 @@
 -- What it tells that a call was not refused, and what the rules say then and on a refusal.
-use Rattle.std.proofs.Common.{◌≡◌, ℕ, ◌<◌, ◌≤◌, Bool, true, false, cond, ◌&&◌, List, length, set, Ok, Err, refl, ap, ◌∙◌, arith}
+use Rattle.std.proofs.Common.{◌≡◌, ℕ, ◌<◌, ◌≤◌, Bool, true, false, cond, ◌&&◌, List, length, set, Ok, Err, sym, refl, ap, ◌∙◌, arith}
 use Rattle.std.proofs.lemmas.Bool.Decides.{nat_tests}
 use Rattle.std.proofs.lemmas.List.{length-set}
 use Rattle.memory.specs.declared.cell.Cell.{Cell}
 use Rattle.memory.specs.declared.limits.Limits.{Limits}
 use Rattle.memory.specs.Cells.{same}
 use Rattle.memory.specs.Faults.{no_cell, unfit}
-use Rattle.memory.specs.Rules.{cell_at, fitting, admitted, load_answer, store_answer, store_after, cas_answer, cas_after}
+use Rattle.memory.specs.Rules.{cell_at, fitting, admission, admitted, load_answer, store_answer, store_after, cas_answer, cas_after}
+
+let_in : {V : Type 0} (code : V → ℕ) (limits : Limits) (n i : ℕ) (c : Cell V) (u : Unit {0}) → Ok u ≡ admission code limits n i c → (i < n) × (fitting code limits c ≡ true)
+let_in code limits n i c u e = (grind (arith, nat_tests), grind (arith, nat_tests))
+
+-- the tests of `admit_change` have been passed, with the length n of the cells and the limits l
+pub passed : {V : Type 0} (code : V → ℕ) (cells : List (Cell V)) (i : ℕ) (c : Cell V) {limits l : Limits} {n : ℕ} {u : Unit {0}} → l ≡ limits → n ≡ length cells → Ok u ≡ admission code l n i c → (i < length cells) × (fitting code limits c ≡ true)
+passed code cells i c {l = l} {n = n} {u = u} q p e =
+    let d = let_in code l n i c u e in
+    (omega arith, ap (λ k. fitting code k c) (sym q) ∙ d.1)
 
 -- an access that is inside and fits
 module _ {V : Type 0} (code : V → ℕ) (limits : Limits) (cells : List (Cell V)) (i : ℕ) (c : Cell V) (inside : i < length cells) (fit : fitting code limits c ≡ true) where

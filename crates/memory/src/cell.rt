@@ -19,10 +19,14 @@ pub enum Cell<V> {
     Id(TaggedId),
 }
 
-// Whether both cells hold the same value, or ids with equal numbers: what `==` answers, told of the cells.
+// Whether both cells hold the same value, or ids with equal numbers. Not `==`, which cells of any kind need not have.
 pub fn same_cell<V: ValueKind>(a: &Cell<V>, b: &Cell<V>) -> bool
     ensures test { result ≡ same V.coded a.now b.now }
     ensures decides { Decides result (a.now ≡ b.now) }
 {
-    a == b
+    match (a, b) {
+        (Cell::Value(x), Cell::Value(y)) => x.same(y),
+        (Cell::Id(x), Cell::Id(y)) => x == y,
+        _ => false,
+    }
 }

@@ -20,11 +20,12 @@ pub trait Memory<V: ValueKind> {
     // the greatest process number, tag and code
     ghost limits: { Self → Limits };
 
-    // what a Store of a cell, answered so, makes of the memory before it, beyond its cells and limits
-    ghost store_leaves: { Self → ℕ → Cell V → Result (Unit {0}) MemoryFault → Self → Type 0 };
+    // what a Store of a cell, answered so, makes of the memory before it, beyond its cells and limits: nothing more
+    // is told where a memory does not say
+    ghost store_leaves: { Self → ℕ → Cell V → Result (Unit {0}) MemoryFault → Self → Type 0 } = { λ _ _ _ _ _. Unit {0} };
 
-    // what a CAS to a cell, answered so, makes of the memory before it, beyond its cells and limits
-    ghost cas_leaves: { Self → ℕ → Cell V → Result Bool MemoryFault → Self → Type 0 };
+    // what a CAS to a cell, answered so, makes of the memory before it, beyond its cells and limits, likewise
+    ghost cas_leaves: { Self → ℕ → Cell V → Result Bool MemoryFault → Self → Type 0 } = { λ _ _ _ _ _. Unit {0} };
 
     // there are at most 65,535 cells
     ghost few: { (m : Self) → length (cells m) ≤ 65535 };

@@ -5,6 +5,8 @@
 #[cfg(test)]
 mod edges;
 #[cfg(test)]
+mod own;
+#[cfg(test)]
 mod stacks;
 #[cfg(test)]
 mod support;

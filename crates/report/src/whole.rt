@@ -67,6 +67,8 @@ fn report_sheet<V: ValueKind>(
     } else {
         "different"
     };
+    // The bytes that came are given back before the text is made, so the two are never held together.
+    drop(again);
     let text = format!(in heap; "{description}written again, {came} bytes: {verdict}\n")?;
     Ok(Report {
         text,

@@ -1,10 +1,10 @@
 // The value-kind trait. Generic code is proved from the laws below and from nothing else, so it serves
 // every kind that keeps them.
-ghost use Rattle.std.specs.Prelude.{◌≡◌, ℕ, ◌-◌, ◌^◌, ◌<◌, ◌≤◌, ◌==◌, Some, Decides, Option};
+ghost use Rattle.std.specs.Prelude.{◌≡◌, ℕ, ◌-◌, ◌^◌, ◌<◌, ◌≤◌, Some, Decides, Option};
 
 // A kind of values. Each value has a code, a whole number; a code gives back one value or none. Two values
-// are equal (`==`) exactly when their codes are.
-pub trait ValueKind: Copy + Drop + Eq {
+// are the same exactly when their codes are equal.
+pub trait ValueKind: Copy + Drop {
     // The number by which a run sheet names the kind.
     const KIND: u8;
 
@@ -31,11 +31,11 @@ pub trait ValueKind: Copy + Drop + Eq {
     fn from_code(code: u64) -> Option<Self>
         ensures { result ≡ decoded code };
 
-    // Whether the two are the same value: what `==` answers, told of their codes.
+    // Whether the two are the same value. A kind may compare its own fields instead.
     fn same(&self, other: &Self) -> bool
         ensures { Decides result (coded self.now ≡ coded other.now) }
     {
-        self == other
+        self.code() == other.code()
     }
 
     // a value's code gives that value back
@@ -52,7 +52,4 @@ pub trait ValueKind: Copy + Drop + Eq {
 
     // the kind number fits a byte
     ghost numbered: { KIND < 256 };
-
-    // equality tells whether the codes are equal
-    ghost told: { (v w : Self) → Self.eq v w ≡ (coded v == coded w) };
 }

@@ -30,8 +30,6 @@ impl ValueKind for Number {
 
     ghost numbered = { Prim.search rules };
 
-    ghost told = { Prim.search rules };
-
     fn code(&self) -> u64 {
         self.value
     }
@@ -41,5 +39,10 @@ impl ValueKind for Number {
             return None;
         }
         Some(Number { value: code })
+    }
+
+    // By the fields, and not by the codes: that the two say the same is proved here, of this kind.
+    fn same(&self, other: &Number) -> bool {
+        self == other
     }
 }

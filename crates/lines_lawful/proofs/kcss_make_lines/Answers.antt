@@ -1,7 +1,6 @@
-use Rattle.steps_lawful.proofs.Stepping.{makes_lines}
+use Rattle.lines.proofs.Operands.{one_value}
 use Rattle.lines_lawful.proofs.kcss_make_lines.Goals as goal
-use Rattle.lines_lawful.proofs.Carrying.{carried}
-use Rattle.lines_lawful.proofs.Several.{kcsses}
+use Rattle.lines_lawful.proofs.Several.{kcss_lines}
 
 pub returns : goal.returns
-returns g c = carried g.V.ValueKind.coded kcsses (makes_lines g.V.ValueKind.coded g.V.ValueKind.decoded g.met.V.ValueKind.returned)
+returns g c = kcss_lines g.V.ValueKind.coded (one_value g.V.ValueKind.coded g.V.ValueKind.decoded g.met.V.ValueKind.returned)

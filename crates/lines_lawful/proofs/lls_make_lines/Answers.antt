@@ -1,7 +1,5 @@
-use Rattle.steps_lawful.proofs.Stepping.{makes_lines}
 use Rattle.lines_lawful.proofs.lls_make_lines.Goals as goal
-use Rattle.lines_lawful.proofs.Carrying.{carried}
-use Rattle.lines_lawful.proofs.Showing.{lls}
+use Rattle.lines_lawful.proofs.Showing.{ll_lines}
 
 pub returns : goal.returns
-returns g c = carried g.V.ValueKind.coded lls (makes_lines g.V.ValueKind.coded g.V.ValueKind.decoded g.met.V.ValueKind.returned)
+returns g c = ll_lines g.V.ValueKind.coded

@@ -1,7 +1,5 @@
-use Rattle.steps_lawful.proofs.Stepping.{makes_lines}
 use Rattle.lines_lawful.proofs.reads_make_lines.Goals as goal
-use Rattle.lines_lawful.proofs.Carrying.{carried}
-use Rattle.lines_lawful.proofs.Showing.{reads}
+use Rattle.lines_lawful.proofs.Showing.{read_lines}
 
 pub returns : goal.returns
-returns g c = carried g.V.ValueKind.coded reads (makes_lines g.V.ValueKind.coded g.V.ValueKind.decoded g.met.V.ValueKind.returned)
+returns g c = read_lines g.V.ValueKind.coded

@@ -1,7 +1,6 @@
-use Rattle.steps_lawful.proofs.Stepping.{makes_lines}
+use Rattle.lines.proofs.Operands.{one_value}
 use Rattle.lines_lawful.proofs.snapshots_make_lines.Goals as goal
-use Rattle.lines_lawful.proofs.Carrying.{carried}
-use Rattle.lines_lawful.proofs.Collecting.{snapshots}
+use Rattle.lines_lawful.proofs.Collecting.{snapshot_lines}
 
 pub returns : goal.returns
-returns g c = carried g.V.ValueKind.coded snapshots (makes_lines g.V.ValueKind.coded g.V.ValueKind.decoded g.met.V.ValueKind.returned)
+returns g c = snapshot_lines g.V.ValueKind.coded (one_value g.V.ValueKind.coded g.V.ValueKind.decoded g.met.V.ValueKind.returned)

@@ -1,4 +1,4 @@
-use Rattle.std.proofs.Common.{◌≡◌, List, ℕ, ◌++◌, codes, decimal, refl, ◌∙◌, append_assoc}
+use Rattle.std.proofs.Common.{◌≡◌, List, ℕ, ◌++◌, codes, decimal, refl, append_assoc, arith}
 use Rattle.sheet.specs.Faults.{refusal_number}
 use Rattle.sheet.specs.Words.{refusal_words}
 use Rattle.report.proofs.whole.report_refusal.Goals as goal
@@ -11,7 +11,6 @@ line_parts a b c d e f g words end = simp append_assoc
 pub returns : goal.returns
 returns c =
     let fault = c.args.fault in
-    record {
-      says = c.in_ok-text.ensures.ok ∙ line_parts (codes "refused: layer ") (decimal 3) (codes ", number ") (decimal (refusal_number fault.refusal)) (codes ", place ") (decimal fault.place) (codes ": ") (refusal_words fault.refusal) (codes "\n");
-      tells = refl;
-    }
+    let h = line_parts (codes "refused: layer ") (decimal 3) (codes ", number ") (decimal (refusal_number fault.refusal)) (codes ", place ") (decimal fault.place) (codes ": ") (refusal_words fault.refusal) (codes "\n") in
+    let k = c.in_ok-text.ensures.ok in
+    record { says = grind (h, k, arith); tells = refl }
