@@ -19,7 +19,7 @@ pub enum Cell<V> {
     Id(TaggedId),
 }
 
-// Whether both cells hold the same value, or ids with equal numbers. Not `==`, which cells of any kind need not have.
+// Whether both cells hold the same value, or ids with equal numbers. Not `==`: a kind need not have it.
 pub fn same_cell<V: ValueKind>(a: &Cell<V>, b: &Cell<V>) -> bool
     ensures test { result ≡ same V.coded a.now b.now }
     ensures decides { Decides result (a.now ≡ b.now) }
