@@ -31,7 +31,7 @@ pub trait ValueKind: Copy + Drop {
     fn from_code(code: u64) -> Option<Self>
         ensures { result ≡ decoded code };
 
-    // Whether the two are the same value. A kind may compare its own fields instead.
+    // Whether the two are the same value: by their codes, where a kind does not compare its own fields.
     fn same(&self, other: &Self) -> bool
         ensures { Decides result (coded self.now ≡ coded other.now) }
     {
