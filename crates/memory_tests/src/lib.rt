@@ -3,6 +3,8 @@
 #![tactic(auto)]
 
 #[cfg(test)]
+mod beyond;
+#[cfg(test)]
 mod edges;
 #[cfg(test)]
 mod own;
